@@ -1,0 +1,10 @@
+pub mod Table
+pub mod Faults
+pub mod Quorums
+pub mod Rounds
+pub mod Trees
+pub mod Intact
+pub mod Replies
+pub mod Questions
+pub mod Rows
+pub mod Points
