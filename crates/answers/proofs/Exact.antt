@@ -1,0 +1,154 @@
+-- Two answers that say the same are the same: from what an answer says, the answer can be read back.
+use mathlib.Core.Path.{_≡_, refl, sym, ap, _∙_}
+use mathlib.Core.Bool.{Bool, true, false, _&&_}
+use mathlib.Core.List.{List, [], _∷_}
+use Prim.Native.Nat.{ℕ}
+use lib.Dec.{eqb, leb}
+use Rattle.meanings.specs.Replies.{Reply, value, valueIn, Place, Nodes, Records, Answer, Set, Rounds, First, Second, Count, Visits}
+use Rattle.answers.specs.declared.Fault.{Fault}
+use Rattle.answers.specs.declared.Fault.the-variants as Fx
+use Rattle.answers.specs.declared.Checked.{Checked}
+use Rattle.answers.specs.declared.Checked.the-variants as Cx
+use Rattle.answers.specs.declared.Judged.{Judged}
+use Rattle.answers.specs.declared.Judged.the-variants as Jx
+use Rattle.answers.specs.declared.Greatest.{Greatest}
+use Rattle.answers.specs.declared.Greatest.the-variants as Gx
+use Rattle.answers.specs.declared.Verdict.{Verdict}
+use Rattle.answers.specs.declared.Verdict.the-variants as Vx
+use Rattle.answers.specs.declared.Listed.{Listed}
+use Rattle.answers.specs.declared.Listed.the-variants as Lx
+use Rattle.answers.specs.declared.Intact.{Intact}
+use Rattle.answers.specs.declared.Intact.the-variants as Ix
+use Rattle.answers.specs.Said.{faultSays, checkedSays, judgedSays, greatestSays, verdictSays, listedSays, intactSays}
+
+module _ {A : Type 0} where
+  abbrev pick : Bool → A → A → A
+  pick true x y = x
+  pick false x y = y
+
+  -- what can be read back is known by what it says
+  pub read-back : (says : A → Reply) (back : Reply → A) → ((x : A) → back (says x) ≡ x) → (x y : A) → says x ≡ says y → x ≡ y
+  read-back says back f x y e = sym (f x) ∙ ap back e ∙ f y
+
+abbrev faultFrom : Reply → Fault
+faultFrom r =
+    let p = value r Place in
+    pick (eqb (r .number) 1) (Fx.Count p) (pick (eqb (r .number) 2) (Fx.Control p) (pick (eqb (r .number) 3) (Fx.Level p)
+    (pick (eqb (r .number) 4) (Fx.Nodes p) (pick (eqb (r .number) 5) (Fx.Threshold p) (pick (eqb (r .number) 6) (Fx.Member p) (Fx.Entries p))))))
+
+fault-back : (f : Fault) → faultFrom (faultSays f) ≡ f
+unfolding valueIn
+fault-back (Fx.Count p) = refl
+fault-back (Fx.Control p) = refl
+fault-back (Fx.Level p) = refl
+fault-back (Fx.Nodes p) = refl
+fault-back (Fx.Threshold p) = refl
+fault-back (Fx.Member p) = refl
+fault-back (Fx.Entries p) = refl
+
+-- an answer that may be a fault: numbers 1 to 7 are read back as one
+module _ {A : Type 0} (other : Reply → A) (bad : Fault → A) where
+  abbrev orFault : Reply → A
+  orFault r = pick (leb 1 (r .number) && leb (r .number) 7) (bad (faultFrom r)) (other r)
+
+  bad-back : (f : Fault) → orFault (faultSays f) ≡ bad f
+  unfolding valueIn
+  bad-back (Fx.Count p) = refl
+  bad-back (Fx.Control p) = refl
+  bad-back (Fx.Level p) = refl
+  bad-back (Fx.Nodes p) = refl
+  bad-back (Fx.Threshold p) = refl
+  bad-back (Fx.Member p) = refl
+  bad-back (Fx.Entries p) = refl
+
+pub fault-exact : (x y : Fault) → faultSays x ≡ faultSays y → x ≡ y
+fault-exact = read-back faultSays faultFrom fault-back
+
+-- ---- each answer, read back by its number and its fields
+abbrev soundFrom : Reply → Checked
+soundFrom r = Cx.Sound (value r Nodes) (value r Records)
+
+checked-back : (x : Checked) → orFault soundFrom Cx.Bad (checkedSays x) ≡ x
+unfolding valueIn
+checked-back (Cx.Sound n r) = refl
+checked-back (Cx.Bad f) = bad-back soundFrom Cx.Bad f
+
+pub checked-exact : (x y : Checked) → checkedSays x ≡ checkedSays y → x ≡ y
+checked-exact = read-back checkedSays (orFault soundFrom Cx.Bad) checked-back
+
+abbrev judgedFrom : Reply → Judged
+judgedFrom r = pick (eqb (r .number) 8) Jx.Outside (pick (eqb (value r Answer) 1) Jx.Yes Jx.No)
+
+judged-back : (x : Judged) → orFault judgedFrom Jx.Bad (judgedSays x) ≡ x
+unfolding valueIn
+judged-back Jx.Yes = refl
+judged-back Jx.No = refl
+judged-back Jx.Outside = refl
+judged-back (Jx.Bad f) = bad-back judgedFrom Jx.Bad f
+
+pub judged-exact : (x y : Judged) → judgedSays x ≡ judgedSays y → x ≡ y
+judged-exact = read-back judgedSays (orFault judgedFrom Jx.Bad) judged-back
+
+abbrev greatestFrom : Reply → Greatest
+greatestFrom r = pick (eqb (r .number) 8) Gx.Outside (Gx.Is (value r Set) (value r Rounds))
+
+greatest-back : (x : Greatest) → orFault greatestFrom Gx.Bad (greatestSays x) ≡ x
+unfolding valueIn
+greatest-back (Gx.Is s k) = refl
+greatest-back Gx.Outside = refl
+greatest-back (Gx.Bad f) = bad-back greatestFrom Gx.Bad f
+
+pub greatest-exact : (x y : Greatest) → greatestSays x ≡ greatestSays y → x ≡ y
+greatest-exact = read-back greatestSays (orFault greatestFrom Gx.Bad) greatest-back
+
+abbrev verdictFrom : Reply → Verdict
+verdictFrom r =
+    pick (eqb (r .number) 0)
+    (pick (eqb (value r Answer) 1) (Vx.Yes (value r Visits)) (Vx.No (value r First) (value r Second) (value r Visits)))
+    (pick (eqb (r .number) 9) (Vx.Spent (value r Visits)) (pick (eqb (r .number) 13) Vx.Unsplit Vx.Outside))
+
+verdict-back : (x : Verdict) → orFault verdictFrom Vx.Bad (verdictSays x) ≡ x
+unfolding valueIn
+verdict-back (Vx.Yes k) = refl
+verdict-back (Vx.No a b k) = refl
+verdict-back (Vx.Spent k) = refl
+verdict-back Vx.Unsplit = refl
+verdict-back Vx.Outside = refl
+verdict-back (Vx.Bad f) = bad-back verdictFrom Vx.Bad f
+
+pub verdict-exact : (x y : Verdict) → verdictSays x ≡ verdictSays y → x ≡ y
+verdict-exact = read-back verdictSays (orFault verdictFrom Vx.Bad) verdict-back
+
+abbrev listedFrom : Reply → Listed
+listedFrom r =
+    pick (eqb (r .number) 0) (Lx.Sets (value r Count) (value r Visits))
+    (pick (eqb (r .number) 10) (Lx.Short (value r Count)) (pick (eqb (r .number) 9) (Lx.Spent (value r Visits)) Lx.Unsplit))
+
+listed-back : (x : Listed) → orFault listedFrom Lx.Bad (listedSays x) ≡ x
+unfolding valueIn
+listed-back (Lx.Sets c k) = refl
+listed-back (Lx.Short c) = refl
+listed-back (Lx.Spent k) = refl
+listed-back Lx.Unsplit = refl
+listed-back (Lx.Bad f) = bad-back listedFrom Lx.Bad f
+
+pub listed-exact : (x y : Listed) → listedSays x ≡ listedSays y → x ≡ y
+listed-exact = read-back listedSays (orFault listedFrom Lx.Bad) listed-back
+
+abbrev intactFrom : Reply → Intact
+intactFrom r =
+    pick (eqb (r .number) 0) (Ix.Are (value r Set) (value r Visits))
+    (pick (eqb (r .number) 11) (Ix.Divided (value r First) (value r Second) (value r Visits))
+    (pick (eqb (r .number) 9) (Ix.Spent (value r Visits)) (pick (eqb (r .number) 13) Ix.Unsplit Ix.Outside)))
+
+intact-back : (x : Intact) → orFault intactFrom Ix.Bad (intactSays x) ≡ x
+unfolding valueIn
+intact-back (Ix.Are s k) = refl
+intact-back (Ix.Divided a b k) = refl
+intact-back (Ix.Spent k) = refl
+intact-back Ix.Unsplit = refl
+intact-back Ix.Outside = refl
+intact-back (Ix.Bad f) = bad-back intactFrom Ix.Bad f
+
+pub intact-exact : (x y : Intact) → intactSays x ≡ intactSays y → x ≡ y
+intact-exact = read-back intactSays (orFault intactFrom Ix.Bad) intact-back
