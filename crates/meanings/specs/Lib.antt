@@ -8,3 +8,4 @@ pub mod Replies
 pub mod Questions
 pub mod Rows
 pub mod Points
+pub mod Further

@@ -60,5 +60,4 @@ rows =
 
 pub points : Every rows
 unfolding computing rows trio pairs single nest
-points =
-    ((refl, (refl, refl)), ((refl, tt), ((refl, refl), ((refl, (refl, refl)), ((refl, refl), ((refl, (refl, refl)), ((refl, (refl, refl)), ((refl, refl), ((refl, refl), (refl, (refl, (refl, ((refl, refl), tt)))))))))))))
+points = refl

@@ -1,7 +1,7 @@
 -- A row of document 01's table of points: a table, a question and its answer; and what it is for a row to hold.
 use mathlib.Core.Path.{_≡_}
-use mathlib.Core.Bool.{Bool, true, false}
-use mathlib.Core.List.{List, [], _∷_, _++_, foldr}
+use mathlib.Core.Bool.{Bool, true, false, not, cond}
+use mathlib.Core.List.{List, [], _∷_, map, foldr}
 use Prim.Native.Nat.{ℕ, zero, suc, _+_, _*_}
 use lib.Dec.{eqb}
 use lib.Count.{trailingZeros}
@@ -42,44 +42,64 @@ pub data Row : Type 0 where
   quorum greatest blocks verdict intact : List ℕ → ℕ → ℕ → Reply → Row
   minimal blocking : List ℕ → ℕ → ℕ → Reply → List ℕ → Row
 
--- What a reply means, told without a tree. Of a verdict: yes exactly when all quorums intersect, and otherwise the pair are two
--- quorums with no node in common. Of an intact question: the set is that of the intact nodes.
+-- What is said of a table: a reply, and what the reply means, told without a tree.
+pub data Fact : Type 0 where
+  test : Bool → Fact
+  sets : List ℕ → Fact
+
+pub record Told : Type 0 where
+  pub replied : Reply
+  pub meant : List Fact
+
+abbrev pub told : Reply → List Fact → Told
+told r l = record { replied = r; meant = l }
+
+-- only an answer, number 0, says something of the table
+abbrev pub answered : Reply → List Fact → List Fact
+answered r l = cond (eqb (r .number) 0) l []
+
 abbrev pub saysYes : Reply → Bool
 saysYes r = eqb (value r Answer) 1
 
-abbrev pub VerdictMeans : List ℕ → ℕ → Reply → Bool → Type 0
-VerdictMeans t d r true = intersecting (nodes t) (satisfied t) d ≡ true
-VerdictMeans t d r false =
-    (intersecting (nodes t) (satisfied t) d ≡ false)
-    × (disjointQuorums (nodes t) (satisfied t) d (value r First) (value r Second) ≡ true)
+-- What the operation answers and what the definitions say of the table. Of a verdict: whether all quorums intersect, and whether
+-- the pair are two quorums with no node in common. Of a list: what the walk of its tree puts there, and all sets of that kind.
+abbrev pub asked : Row → Told
+asked (check t r) = told (checkReply t) []
+asked (quorum t d u r) = told (quorumReply t d u) []
+asked (blocks t b v r) = told (blocksReply t b v) []
+asked (greatest t d u r) = told (greatestReply t d u) (answered r (sets (survivors (nodes t) (satisfied t) d u ∷ []) ∷ []))
+asked (verdict t d allowance r) =
+    told (verdictReply t d allowance)
+    (answered r
+    (test (intersecting (nodes t) (satisfied t) d)
+    ∷ test (disjointQuorums (nodes t) (satisfied t) d (value r First) (value r Second)) ∷ []))
+asked (intact t b allowance r) =
+    told (intactReply t b allowance) (answered r (sets (intactNodes (nodes t) (satisfied t) b ∷ []) ∷ []))
+asked (minimal t allowance room r l) =
+    told (minimalReply t allowance room)
+    (answered r (sets (listPuts (list (minimalTree (nodes t) (satisfied t)))) ∷ sets (minimalQuorums (nodes t) (satisfied t)) ∷ []))
+asked (blocking t allowance room r l) =
+    told (blockingReply t allowance room)
+    (answered r (sets (listPuts (list (blockingTree (nodes t) (satisfied t)))) ∷ sets (minimalBlockingSets (nodes t) (satisfied t)) ∷ []))
 
--- only an answer, number 0, says something of the table
-abbrev pub Answered : ℕ → Type 0 → Type 0
-Answered zero A = A
-Answered (suc k) A = Unit {0}
+-- What the row says: yes exactly when all quorums intersect, and otherwise the pair; the set of those who are left, of the intact
+-- nodes; the list.
+abbrev pub said : Row → Told
+said (check t r) = told r []
+said (quorum t d u r) = told r []
+said (blocks t b v r) = told r []
+said (greatest t d u r) = told r (answered r (sets (value r Set ∷ []) ∷ []))
+said (verdict t d allowance r) = told r (answered r (test (saysYes r) ∷ test (not (saysYes r)) ∷ []))
+said (intact t b allowance r) = told r (answered r (sets (value r Set ∷ []) ∷ []))
+said (minimal t allowance room r l) = told r (answered r (sets l ∷ sets l ∷ []))
+said (blocking t allowance room r l) = told r (answered r (sets l ∷ sets l ∷ []))
 
--- A row holds when the operation answers what the row says, and the answer means what document 01 says it means.
+-- a row holds, and every row of a list holds
 abbrev pub Holds : Row → Type 0
-Holds (check t r) = checkReply t ≡ r
-Holds (quorum t d u r) = quorumReply t d u ≡ r
-Holds (greatest t d u r) =
-    (greatestReply t d u ≡ r) × (Answered (r .number) (survivors (nodes t) (satisfied t) d u ≡ value r Set))
-Holds (blocks t b v r) = blocksReply t b v ≡ r
-Holds (verdict t d allowance r) =
-    (verdictReply t d allowance ≡ r) × (Answered (r .number) (VerdictMeans t d r (saysYes r)))
-Holds (intact t b allowance r) =
-    (intactReply t b allowance ≡ r) × (Answered (r .number) (intactNodes (nodes t) (satisfied t) b ≡ value r Set))
-Holds (minimal t allowance room r l) =
-    (minimalReply t allowance room ≡ r)
-    × (Answered (r .number) ((listPuts (list (minimalTree (nodes t) (satisfied t))) ≡ l) × (minimalQuorums (nodes t) (satisfied t) ≡ l)))
-Holds (blocking t allowance room r l) =
-    (blockingReply t allowance room ≡ r)
-    × (Answered (r .number) ((listPuts (list (blockingTree (nodes t) (satisfied t))) ≡ l) × (minimalBlockingSets (nodes t) (satisfied t) ≡ l)))
+Holds x = asked x ≡ said x
 
--- every row of a list holds
 abbrev pub Every : List Row → Type 0
-Every [] = Unit {0}
-Every (x ∷ l) = Holds x × Every l
+Every l = map asked l ≡ map said l
 
 -- All that a row computes with: a proof that says `unfolding computing` sees through each of these.
 unfoldable pub computing : Unit {0}
