@@ -1,0 +1,3 @@
+pub mod Quorum
+pub mod Greatest
+pub mod Rounds
