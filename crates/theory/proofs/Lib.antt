@@ -1,3 +1,5 @@
 pub mod Quorum
 pub mod Greatest
 pub mod Rounds
+pub mod Walks
+pub mod QuorumTree
