@@ -3,3 +3,4 @@ pub mod Greatest
 pub mod Rounds
 pub mod Walks
 pub mod QuorumTree
+pub mod Verdict

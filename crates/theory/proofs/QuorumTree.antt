@@ -4,12 +4,12 @@
 use mathlib.Core.Path.{_≡_, refl, sym, ap, ap₂, _∙_, subst}
 use mathlib.Core.Bool.{Bool, true, false, not, _&&_, _||_}
 use mathlib.Core.Logic.{_⊎_, inl, inr, ⊎-elim}
-use Prim.Native.Nat.{ℕ, zero, suc, _+_, _^_, _≤_, _<_}
-use native.Mathlib.Nat.{not-suc-le-zero}
+use Prim.Native.Nat.{ℕ, zero, suc, _+_, _*_, _^_, _≤_, _<_}
+use native.Mathlib.Nat.{not-suc-le-zero, le-refl, pow-suc}
 use native.Mathlib.Omega.{arith}
 use borrow.Author.Tests.{eqb-true, eqb-false, eq-eqb, ne-eqb}
 use lib.Dec.{eqb}
-use lib.Pow.{pow-lt, pow-pos}
+use lib.Pow.{pow-lt, pow-pos, pow-mono}
 use Rattle.sets.specs.Sets.{has, nobody, everyone, only, _∪_, _∩_, _∖_, empty, within, size, lowest}
 use Rattle.sets.proofs.Bools.{either, clash, or-fails, or-neither, not-fails, not-holds, fails}
 use Rattle.sets.proofs.Members.{In, Sub, has-only, ∪-left, ∪-right, ∪-cases, ∪-lt, ∖-in, ∖-out, ∖-lt, none-in, only-in, only-out, within-sub, sub-within, sub-antisym}
@@ -19,6 +19,11 @@ use Rattle.meanings.specs.Quorums.{ground, quorum, greatest}
 use Rattle.meanings.specs.Trees.{Tree, leaf, found, unsplit, fork, quorumTree}
 use Rattle.theory.proofs.Quorum.{Monotone, Quorum, is-quorum, quorum-is}
 use Rattle.theory.proofs.Greatest.{greatest-lt, greatest-sub, greatest-itself, greatest-quorum}
+use Rattle.theory.proofs.Walks.{finds, visits, Splits}
+
+-- a single visit is within the bound
+pub few : (k : ℕ) → 2 ≤ 2 ^ suc k
+few k = let p : 0 < 2 ^ k = pow-pos k in let q : 2 ^ suc k ≡ 2 ^ k * 2 = pow-suc 2 k in omega arith
 
 -- the greatest quorum in reach, the nodes that can be split on, the one that is, and the open nodes below
 module _ (n : ℕ) (s : ℕ → ℕ → Bool) (d c r : ℕ) where
@@ -162,3 +167,42 @@ module _ {A : Type 0} (n : ℕ) (s : ℕ → ℕ → Bool) (d : ℕ) (prune : �
       tree-fork n c r e k q z
       ∙ ap₂ fork (sym (tree-suc n c (below n s d c r) hc b l))
         (sym (tree-suc n (c ∪ only (chosen n s d c r)) (below n s d c r) (∪-lt n c (only (chosen n s d c r)) hc (only-lt n s d c r z)) b l))
+
+  -- ---- whatever is found on the way
+  module _ (mono : Monotone s) where
+    -- every visit that should split does
+    pub tree-splits : ((c : ℕ) → Splits (atQuorum c)) → (f c r : ℕ) → c < 2 ^ n → Splits (tree f c r)
+    unfolding quorumTree
+    tree-splits sp zero c r hc = tt
+    tree-splits sp (suc f) c r hc = go (visit c r) (λ c' hc'. tree-splits sp f c' (below n s d c r) hc')
+      where
+        go : Visit c r → ((c' : ℕ) → c' < 2 ^ n → Splits (tree f c' (below n s d c r))) → Splits (tree (suc f) c r)
+        go (pruned e) ih = subst Splits (sym (tree-pruned f c r e)) tt
+        go (dried e k) ih = subst Splits (sym (tree-dry f c r e k)) tt
+        go (quorate e k q) ih = subst Splits (sym (tree-quorum f c r e k q)) (sp c)
+        go (lost e k q z) ih = absurd (some-choice n s d c r mono hc k q z)
+        go (parted e k q z) ih =
+            subst Splits (sym (tree-fork f c r e k q z))
+            (ih c hc, ih (c ∪ only (chosen n s d c r)) (∪-lt n c (only (chosen n s d c r)) hc (only-lt n s d c r z)))
+
+  -- a tree of a open nodes has at most 2 ^ (a + 1) - 1 visits
+  pub tree-visits : ((c : ℕ) → visits (atQuorum c) ≤ 1) → (f c r : ℕ) → r < 2 ^ n → suc (visits (tree f c r)) ≤ 2 ^ suc (size n r)
+  unfolding quorumTree visits
+  tree-visits one zero c r hr = few (size n r)
+  tree-visits one (suc f) c r hr = go (visit c r) (λ c'. tree-visits one f c' (below n s d c r) (below-lt n s d c r))
+    where
+      leaf-few : (t : Tree A) → visits t ≤ 1 → tree (suc f) c r ≡ t → suc (visits (tree (suc f) c r)) ≤ 2 ^ suc (size n r)
+      leaf-few t l e = let w = few (size n r) in subst (λ (x : Tree A). suc (visits x) ≤ 2 ^ suc (size n r)) (sym e) (omega arith)
+
+      go : Visit c r → ((c' : ℕ) → suc (visits (tree f c' (below n s d c r))) ≤ 2 ^ suc (size n (below n s d c r))) → suc (visits (tree (suc f) c r)) ≤ 2 ^ suc (size n r)
+      go (pruned e) ih = leaf-few leaf (le-refl 1) (tree-pruned f c r e)
+      go (dried e k) ih = leaf-few leaf (le-refl 1) (tree-dry f c r e k)
+      go (quorate e k q) ih = leaf-few (atQuorum c) (one c) (tree-quorum f c r e k q)
+      go (lost e k q z) ih = leaf-few unsplit (le-refl 1) (tree-unsplit f c r e k q z)
+      go (parted e k q z) ih =
+          let l : suc (size n (below n s d c r)) ≤ size n r = fewer n s d c r z hr in
+          let m : 2 ^ suc (size n (below n s d c r)) ≤ 2 ^ size n r = pow-mono l in
+          let a = ih c in
+          let b = ih (c ∪ only (chosen n s d c r)) in
+          let w : 2 ^ suc (size n r) ≡ 2 ^ size n r * 2 = pow-suc 2 (size n r) in
+          subst (λ (x : Tree A). suc (visits x) ≤ 2 ^ suc (size n r)) (sym (tree-fork f c r e k q z)) (omega arith)

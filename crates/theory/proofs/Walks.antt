@@ -1,13 +1,14 @@
 -- Walking a tree of visits: what is found on the way, and how many visits there are. Where every visit that should split does, a
 -- walk of the whole tree lists all finds, and a walk that stops at the first find stops at one exactly when there is one.
 use mathlib.Core.Path.{_≡_, refl, sym, ap, ap₂, _∙_, subst}
+use mathlib.Core.Bool.{Bool, true, false}
 use mathlib.Core.List.{List, [], _∷_, _++_}
 use mathlib.Core.Logic.{_⊎_, inl, inr, ⊎-elim}
 use Prim.Native.Nat.{ℕ, zero, suc, _+_, _≤_, _<_}
 use native.Mathlib.Nat.{le-refl}
 use native.Mathlib.Omega.{arith}
 use Rattle.sets.proofs.Listing.{Among, among-left, among-right}
-use Rattle.meanings.specs.Trees.{Tree, leaf, found, unsplit, fork, Walk, hit, missed, stuck, Listing, listed, broken, later, thenWalk, walk, thenList, list}
+use Rattle.meanings.specs.Trees.{Tree, leaf, found, unsplit, fork, Walk, hit, missed, stuck, Listing, listed, broken, foundIf, later, thenWalk, walk, thenList, list}
 
 module _ {A : Type 0} where
   -- all finds in the order of the walk, and all visits
@@ -36,6 +37,26 @@ module _ {A : Type 0} where
   visits-pos (found x) = le-refl 1
   visits-pos unsplit = le-refl 1
   visits-pos (fork x y) = let p = visits-pos x in omega arith
+
+  -- a leaf that finds something where a test holds
+  pub maybe-splits : (b : Bool) (x : A) → Splits (foundIf b x)
+  maybe-splits true x = tt
+  maybe-splits false x = tt
+
+  pub maybe-visits : (b : Bool) (x : A) → visits (foundIf b x) ≤ 1
+  unfolding visits
+  maybe-visits true x = le-refl 1
+  maybe-visits false x = le-refl 1
+
+  pub maybe-found : (b : Bool) (x : A) → b ≡ true → Among x (finds (foundIf b x))
+  unfolding finds
+  maybe-found b x e = rw e (inl refl)
+
+  pub found-maybe : (b : Bool) (x y : A) → Among y (finds (foundIf b x)) → (b ≡ true) × (y ≡ x)
+  unfolding finds
+  found-maybe true x y (inl e) = (refl, e)
+  found-maybe true x y (inr m) = absurd m
+  found-maybe false x y m = absurd m
 
   pub list-all : (t : Tree A) → Splits t → list t ≡ listed (finds t) (visits t)
   unfolding list finds visits
