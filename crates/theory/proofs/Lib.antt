@@ -4,3 +4,4 @@ pub mod Rounds
 pub mod Walks
 pub mod QuorumTree
 pub mod Verdict
+pub mod Minimal
