@@ -5,3 +5,4 @@ pub mod Walks
 pub mod QuorumTree
 pub mod Verdict
 pub mod Minimal
+pub mod Blocking

@@ -39,6 +39,12 @@ smaller-is a b e =
     let w = and-parts (within a b) (not (eqb a b)) e in
     (within-sub a b (w .0), eqb-false a b (not-holds (eqb a b) (w .1)))
 
+-- a leaf lists one set at the most
+pub one-rises : (b : Bool) (c : ℕ) → Rising (finds (foundIf b c))
+unfolding finds
+one-rises true c = ((λ x m. absurd m), tt)
+one-rises false c = tt
+
 module _ (n : ℕ) (s : ℕ → ℕ → Bool) where
   -- a minimal quorum is a quorum, and every quorum in it is itself
   pub record Minimal (u : ℕ) : Type 0 where
@@ -245,11 +251,6 @@ module _ (n : ℕ) (s : ℕ → ℕ → Bool) where
               (λ j p. ⊎-elim (λ w. ⊎-elim (reach-c j) (λ u. subst (In (reach n s nobody c r)) (sym (only-out j v u)) reach-v) (∪-cases c (only v) j w)) (reach-b j)
                 (∪-cases (c ∪ only v) b j (y .within-both j p))))
         }
-
-  one-rises : (b : Bool) (c : ℕ) → Rising (finds (foundIf b c))
-  unfolding finds
-  one-rises true c = ((λ x m. absurd m), tt)
-  one-rises false c = tt
 
   pub finds-rise : (f c r : ℕ) → Rising (finds (tree f c r))
   unfolding quorumTree finds b v
