@@ -41,7 +41,7 @@ module _ (n : ℕ) (s : ℕ → ℕ → Bool) where
       let w = a-node n s q (a .below) (a .some-node) in
       clash (holdsQuorum n s nobody (everyone n ∖ b))
       (greatest-holds n s nobody (everyone n ∖ b) (λ z.
-        none-in (greatest n s nobody (everyone n ∖ b)) (w .0) z (greatest-has n s nobody (everyone n ∖ b) q a (outside-in b q a f) (w .0) (w .1))))
+      none-in (greatest n s nobody (everyone n ∖ b)) (w .0) z (greatest-has n s nobody (everyone n ∖ b) q a (outside-in b q a f) (w .0) (w .1))))
       (not-holds (holdsQuorum n s nobody (everyone n ∖ b)) e)
 
   -- a set that holds a quorum has one
@@ -56,8 +56,8 @@ module _ (n : ℕ) (s : ℕ → ℕ → Bool) where
   unfolding blockingSet
   is-blocking b f =
       ap not (fails (holdsQuorum n s nobody (everyone n ∖ b)) (λ e.
-        let w = a-quorum (everyone n ∖ b) e in
-        f (w .0) (w .1) (λ i p. ∖-out (everyone n) b i (w .2 i p) .1)))
+      let w = a-quorum (everyone n ∖ b) e in
+      f (w .0) (w .1) (λ i p. ∖-out (everyone n) b i (w .2 i p) .1)))
 
   pub record MinimalBlocking (b : ℕ) : Type 0 where
     pub bound : b < 2 ^ n
@@ -72,10 +72,10 @@ module _ (n : ℕ) (s : ℕ → ℕ → Bool) where
         bound = h;
         is = blocking-is b (w .0);
         least = λ c l x f. within-same n c b l f
-          (fails (smaller c b) (λ y.
+            (fails (smaller c b) (λ y.
             clash (someSet n (λ c. blockingSet n s c && smaller c b))
             (at-someSet n (λ c. blockingSet n s c && smaller c b) c l (and-both (blockingSet n s c) (smaller c b) (is-blocking c x) y))
-            (not-holds (someSet n (λ c. blockingSet n s c && smaller c b)) (w .1))))
+            (not-holds (someSet n (λ c. blockingSet n s c && smaller c b)) (w .1))));
       }
 
   pub is-minimal : (b : ℕ) → MinimalBlocking b → minimalBlocking n s b ≡ true
@@ -83,10 +83,10 @@ module _ (n : ℕ) (s : ℕ → ℕ → Bool) where
   is-minimal b m =
       and-both (blockingSet n s b) (not (someSet n (λ c. blockingSet n s c && smaller c b))) (is-blocking b (m .is))
       (ap not (fails (someSet n (λ c. blockingSet n s c && smaller c b)) (λ x.
-        let w = someSet-at n (λ c. blockingSet n s c && smaller c b) x in
-        let v = and-parts (blockingSet n s (w .0)) (smaller (w .0) b) (w .2) in
-        let k = smaller-is (w .0) b (v .1) in
-        k .1 (m .least (w .0) (w .1) (blocking-is (w .0) (v .0)) (k .0)))))
+      let w = someSet-at n (λ c. blockingSet n s c && smaller c b) x in
+      let v = and-parts (blockingSet n s (w .0)) (smaller (w .0) b) (w .2) in
+      let k = smaller-is (w .0) b (v .1) in
+      k .1 (m .least (w .0) (w .1) (blocking-is (w .0) (v .0)) (k .0)))))
 
   -- a minimal blocking set that holds c has, besides c, only nodes of the greatest quorum outside c
   pub beside : (c b : ℕ) → c < 2 ^ n → Sub c b → MinimalBlocking b → Sub b (c ∪ greatest n s nobody (everyone n ∖ c))
@@ -94,8 +94,8 @@ module _ (n : ℕ) (s : ℕ → ℕ → Bool) where
       let g = greatest n s nobody (everyone n ∖ c) in
       let b' = c ∪ (b ∩ g) in
       let blocks' : Blocks b' = λ q a x.
-        let in-g : Sub q g = greatest-has n s nobody (everyone n ∖ c) q a (outside-in c q a (λ i p. fails (has c i) (λ y. clash (has b' i) (∪-left c (b ∩ g) i y) (x i p)))) in
-        m .is q a (λ i p. fails (has b i) (λ y. clash (has b' i) (∪-right c (b ∩ g) i (∩-in b g i y (in-g i p))) (x i p))) in
+      let in-g : Sub q g = greatest-has n s nobody (everyone n ∖ c) q a (outside-in c q a (λ i p. fails (has c i) (λ y. clash (has b' i) (∪-left c (b ∩ g) i y) (x i p)))) in
+      m .is q a (λ i p. fails (has b i) (λ y. clash (has b' i) (∪-right c (b ∩ g) i (∩-in b g i y (in-g i p))) (x i p))) in
       let same : b' ≡ b = m .least b' (∪-lt n c (b ∩ g) h (∩-lt n b g (m .bound))) blocks' (λ i p. ⊎-elim (f i) (λ y. ∩-out b g i y .0) (∪-cases c (b ∩ g) i p)) in
       λ i p. ⊎-elim (λ y. ∪-left c g i y) (λ y. ∪-right c g i (∩-out b g i y .1)) (∪-cases c (b ∩ g) i (subst (λ (x : ℕ). In x i) (sym same) p))
 
@@ -150,13 +150,13 @@ module _ (n : ℕ) (s : ℕ → ℕ → Bool) where
         let there : ¬ (g ≡ nobody) = holds-greatest n s nobody (everyone n ∖ c) (not-fails (holdsQuorum n s nobody (everyone n ∖ c)) k) in
         let q = greatest-quorum n s mono nobody (everyone n ∖ c) there in
         let far : Sub g (everyone n ∖ (c ∪ r)) = λ i p.
-          let w = ∖-out (everyone n) c i (greatest-sub n s nobody (everyone n ∖ c) i p) in
-          ∖-in (everyone n) (c ∪ r) i (w .0)
-          (fails (has (c ∪ r) i) (λ x. ⊎-elim (λ y. clash (has c i) y (w .1)) (λ y. none-in choices i z (∩-in r g i y p)) (∪-cases c r i x))) in
+        let w = ∖-out (everyone n) c i (greatest-sub n s nobody (everyone n ∖ c) i p) in
+        ∖-in (everyone n) (c ∪ r) i (w .0)
+        (fails (has (c ∪ r) i) (λ x. ⊎-elim (λ y. clash (has c i) y (w .1)) (λ y. none-in choices i z (∩-in r g i y p)) (∪-cases c r i x))) in
         let w = a-node n s g (q .below) there in
         clash shut
         (greatest-holds n s nobody (everyone n ∖ (c ∪ r)) (λ x.
-          none-in (greatest n s nobody (everyone n ∖ (c ∪ r))) (w .0) x (greatest-has n s nobody (everyone n ∖ (c ∪ r)) g q far (w .0) (w .1))))
+        none-in (greatest n s nobody (everyone n ∖ (c ∪ r))) (w .0) x (greatest-has n s nobody (everyone n ∖ (c ∪ r)) g q far (w .0) (w .1))))
         e
 
   abbrev tree : ℕ → ℕ → ℕ → Tree ℕ
@@ -271,23 +271,29 @@ module _ (n : ℕ) (s : ℕ → ℕ → Bool) where
           record {
             minimal = subst MinimalBlocking (sym (p .1)) (minimal-is c hc (p .0));
             holds = λ i x. subst (λ (y : ℕ). In y i) (sym (p .1)) x;
-            within-both = λ i x. ∪-left c r i (subst (λ (y : ℕ). In y i) (p .1) x)
+            within-both = λ i x. ∪-left c r i (subst (λ (y : ℕ). In y i) (p .1) x);
           }
       go (lost e k z) ih = absurd (cast unsplit (tree-unsplit f c r e k z))
       go (parted e k z) ih =
           let v = chosen c r in
           ⊎-elim
           (λ x. let p = ih c hc x in
-            record { minimal = p .minimal; holds = p .holds;
-              within-both = λ i y. ⊎-elim (λ a. ∪-left c r i a) (λ a. ∪-right c r i (rest-in i a)) (∪-cases c (rest c r) i (p .within-both i y)) })
+          record {
+            minimal = p .minimal;
+            holds = p .holds;
+            within-both = λ i y. ⊎-elim (λ a. ∪-left c r i a) (λ a. ∪-right c r i (rest-in i a)) (∪-cases c (rest c r) i (p .within-both i y));
+          })
           (λ x. let p = ih (c ∪ only v) (∪-lt n c (only v) hc (only-lt c r hr z)) x in
-            record { minimal = p .minimal; holds = λ i y. p .holds i (∪-left c (only v) i y);
-              within-both = λ i y. ⊎-elim
+          record {
+            minimal = p .minimal;
+            holds = λ i y. p .holds i (∪-left c (only v) i y);
+            within-both = λ i y. ⊎-elim
                 (λ a. ⊎-elim (λ w. ∪-left c r i w) (λ w. ∪-right c r i (subst (In r) (sym (only-out i v w)) (chosen-open c r hr z))) (∪-cases c (only v) i a))
                 (λ a. ∪-right c r i (rest-in i a))
-                (∪-cases (c ∪ only v) (rest c r) i (p .within-both i y)) })
+                (∪-cases (c ∪ only v) (rest c r) i (p .within-both i y));
+          })
           (among-cases b (finds (tree f c (rest c r))) (finds (tree f (c ∪ only v) (rest c r)))
-            (cast (fork (tree f c (rest c r)) (tree f (c ∪ only v) (rest c r))) (tree-fork f c r e k z)))
+          (cast (fork (tree f c (rest c r)) (tree f (c ∪ only v) (rest c r))) (tree-fork f c r e k z)))
 
   -- ---- and each of them is
   pub between-finds : Monotone s → (f c r b : ℕ) → c < 2 ^ n → r < 2 ^ n → size n r < f → Between c r b → Among b (finds (tree f c r))
@@ -307,37 +313,37 @@ module _ (n : ℕ) (s : ℕ → ℕ → Bool) where
       go (closed e) ih =
           let w = a-quorum (everyone n ∖ (c ∪ r)) e in
           absurd (m .minimal .is (w .0) (w .1)
-            (λ i p. fails (has b i) (λ x. clash (has (c ∪ r) i) (m .within-both i x) (∖-out (everyone n) (c ∪ r) i (w .2 i p) .1))))
+          (λ i p. fails (has b i) (λ x. clash (has (c ∪ r) i) (m .within-both i x) (∖-out (everyone n) (c ∪ r) i (w .2 i p) .1))))
       go (blocks e k) ih =
           let same : c ≡ b = m .minimal .least c hc (blocking-is c k) (m .holds) in
           cast (atBlocking c) (tree-blocks f c r e k)
           (subst (λ (y : ℕ). Among y (finds (atBlocking c))) same
-            (maybe-found (minimalBlocking n s c) c (is-minimal c (subst MinimalBlocking (sym same) (m .minimal)))))
+          (maybe-found (minimalBlocking n s c) c (is-minimal c (subst MinimalBlocking (sym same) (m .minimal)))))
       go (lost e k z) ih = absurd (some-choice c r mono e k z)
       go (parted e k z) ih =
           cast (fork (tree f c (rest c r)) (tree f (c ∪ only v) (rest c r))) (tree-fork f c r e k z)
           (⊎-elim
-            (λ x. among-right b (finds (tree f c (rest c r))) (finds (tree f (c ∪ only v) (rest c r)))
-              (ih (c ∪ only v) (∪-lt n c (only v) hc (only-lt c r hr z)) z
-                (record {
-                  minimal = m .minimal;
-                  holds = λ i y. ⊎-elim (m .holds i) (λ a. subst (In b) (sym (only-out i v a)) x) (∪-cases c (only v) i y);
-                  within-both = λ i y. ⊎-elim
-                    (λ a. ∪-left (c ∪ only v) (rest c r) i (∪-left c (only v) i a))
-                    (λ a. ⊎-elim (λ w. ∪-left (c ∪ only v) (rest c r) i (∪-right c (only v) i (subst (In (only v)) (sym w) (only-in v)))) (λ w. ∪-right (c ∪ only v) (rest c r) i w) (open-cases c r i a))
-                    (∪-cases c r i (m .within-both i y))
-                })))
-            (λ x. among-left b (finds (tree f c (rest c r))) (finds (tree f (c ∪ only v) (rest c r)))
-              (ih c hc z
-                (record {
-                  minimal = m .minimal;
-                  holds = m .holds;
-                  within-both = λ i y. ⊎-elim
-                    (λ a. ∪-left c (rest c r) i a)
-                    (λ a. ⊎-elim (λ w. clash (has b v) (subst (In b) w y) x) (λ w. ∪-right c (rest c r) i w) (open-cases c r i a))
-                    (∪-cases c r i (m .within-both i y))
-                })))
-            (either (has b v)))
+          (λ x. among-right b (finds (tree f c (rest c r))) (finds (tree f (c ∪ only v) (rest c r)))
+          (ih (c ∪ only v) (∪-lt n c (only v) hc (only-lt c r hr z)) z
+          (record {
+            minimal = m .minimal;
+            holds = λ i y. ⊎-elim (m .holds i) (λ a. subst (In b) (sym (only-out i v a)) x) (∪-cases c (only v) i y);
+            within-both = λ i y. ⊎-elim
+                (λ a. ∪-left (c ∪ only v) (rest c r) i (∪-left c (only v) i a))
+                (λ a. ⊎-elim (λ w. ∪-left (c ∪ only v) (rest c r) i (∪-right c (only v) i (subst (In (only v)) (sym w) (only-in v)))) (λ w. ∪-right (c ∪ only v) (rest c r) i w) (open-cases c r i a))
+                (∪-cases c r i (m .within-both i y));
+          })))
+          (λ x. among-left b (finds (tree f c (rest c r))) (finds (tree f (c ∪ only v) (rest c r)))
+          (ih c hc z
+          (record {
+            minimal = m .minimal;
+            holds = m .holds;
+            within-both = λ i y. ⊎-elim
+                (λ a. ∪-left c (rest c r) i a)
+                (λ a. ⊎-elim (λ w. clash (has b v) (subst (In b) w y) x) (λ w. ∪-right c (rest c r) i w) (open-cases c r i a))
+                (∪-cases c r i (m .within-both i y));
+          })))
+          (either (has b v)))
 
   -- ---- in the listing order
   module _ (c r : ℕ) (hc : c < 2 ^ n) (hr : r < 2 ^ n) (z : ¬ (choices c r ≡ nobody)) where
@@ -346,12 +352,12 @@ module _ (n : ℕ) (s : ℕ → ℕ → Bool) where
     low-in b i l m f g =
         bool-ext (has b i) (has c i)
         (λ x. ⊎-elim (λ y. y)
-          (λ y. clash (has (choices c r) i)
-            (∩-in r (greatest n s nobody (everyone n ∖ c)) i
-              (⊎-elim (λ w. clash (has c i) w y) (λ w. w) (∪-cases c r i (g i x)))
-              (⊎-elim (λ w. clash (has c i) w y) (λ w. w) (∪-cases c (greatest n s nobody (everyone n ∖ c)) i (beside c b hc f m i x))))
-            (lowest-first n (choices c r) i l))
-          (either (has c i)))
+        (λ y. clash (has (choices c r) i)
+        (∩-in r (greatest n s nobody (everyone n ∖ c)) i
+        (⊎-elim (λ w. clash (has c i) w y) (λ w. w) (∪-cases c r i (g i x)))
+        (⊎-elim (λ w. clash (has c i) w y) (λ w. w) (∪-cases c (greatest n s nobody (everyone n ∖ c)) i (beside c b hc f m i x))))
+        (lowest-first n (choices c r) i l))
+        (either (has c i)))
         (f i)
 
     ahead : (a b : ℕ) → Between c (rest c r) a → Between (c ∪ only (chosen c r)) (rest c r) b → Ahead a b
@@ -361,15 +367,15 @@ module _ (n : ℕ) (s : ℕ → ℕ → Bool) where
         record {
           where-at = v;
           lacks = fails (has a v) (λ p.
-            ⊎-elim (λ w. clash (has c v) w (chosen-new c r hr z)) (λ w. clash (has (only v) v) (only-in v) (∖-out r (only v) v w .1)) (∪-cases c (rest c r) v (x .within-both v p)));
+              ⊎-elim (λ w. clash (has c v) w (chosen-new c r hr z)) (λ w. clash (has (only v) v) (only-in v) (∖-out r (only v) v w .1)) (∪-cases c (rest c r) v (x .within-both v p)));
           holds = y .holds v (∪-right c (only v) v (only-in v));
           alike = λ i l.
-            low-in a i l (x .minimal) (x .holds) (λ j p. ⊎-elim (λ w. ∪-left c r j w) (λ w. ∪-right c r j (rest-in j w)) (∪-cases c (rest c r) j (x .within-both j p)))
-            ∙ sym (low-in b i l (y .minimal) (λ j p. y .holds j (∪-left c (only v) j p))
+              low-in a i l (x .minimal) (x .holds) (λ j p. ⊎-elim (λ w. ∪-left c r j w) (λ w. ∪-right c r j (rest-in j w)) (∪-cases c (rest c r) j (x .within-both j p)))
+              ∙ sym (low-in b i l (y .minimal) (λ j p. y .holds j (∪-left c (only v) j p))
               (λ j p. ⊎-elim
-                (λ w. ⊎-elim (λ u. ∪-left c r j u) (λ u. ∪-right c r j (subst (In r) (sym (only-out j v u)) (chosen-open c r hr z))) (∪-cases c (only v) j w))
-                (λ w. ∪-right c r j (rest-in j w))
-                (∪-cases (c ∪ only v) (rest c r) j (y .within-both j p))))
+              (λ w. ⊎-elim (λ u. ∪-left c r j u) (λ u. ∪-right c r j (subst (In r) (sym (only-out j v u)) (chosen-open c r hr z))) (∪-cases c (only v) j w))
+              (λ w. ∪-right c r j (rest-in j w))
+              (∪-cases (c ∪ only v) (rest c r) j (y .within-both j p))));
         }
 
   pub finds-rise : (f c r : ℕ) → c < 2 ^ n → r < 2 ^ n → Rising (finds (tree f c r))
@@ -389,7 +395,7 @@ module _ (n : ℕ) (s : ℕ → ℕ → Bool) where
           let hc' = ∪-lt n c (only (chosen c r)) hc (only-lt c r hr z) in
           cast (fork (tree f c (rest c r)) (tree f c' (rest c r))) (tree-fork f c r e k z)
           (rising-append (finds (tree f c (rest c r))) (finds (tree f c' (rest c r))) (ih c hc) (ih c' hc')
-            (λ a b x y. ahead c r hc hr z a b (finds-between f c (rest c r) a hc (rest-lt c r hr) x) (finds-between f c' (rest c r) b hc' (rest-lt c r hr) y)))
+          (λ a b x y. ahead c r hc hr z a b (finds-between f c (rest c r) a hc (rest-lt c r hr) x) (finds-between f c' (rest c r) b hc' (rest-lt c r hr) y)))
 
   -- ---- the list
   module _ (mono : Monotone s) where
@@ -399,11 +405,11 @@ module _ (n : ℕ) (s : ℕ → ℕ → Bool) where
         rising-same (finds (tree (suc n) nobody (everyone n))) (setsThat n (minimalBlocking n s))
         (finds-rise (suc n) nobody (everyone n) (pow-pos n) (everyone-lt n)) (setsThat-rise n (minimalBlocking n s))
         (λ b m. let w = finds-between (suc n) nobody (everyone n) b (pow-pos n) (everyone-lt n) m in
-          setsThat-in n (minimalBlocking n s) b (w .minimal .bound) (is-minimal b (w .minimal)))
+        setsThat-in n (minimalBlocking n s) b (w .minimal .bound) (is-minimal b (w .minimal)))
         (λ b m.
-          let w = setsThat-out n (minimalBlocking n s) b m in
-          between-finds mono (suc n) nobody (everyone n) b (pow-pos n) (everyone-lt n) (let l = size-le n (everyone n) in omega arith)
-          (record { minimal = minimal-is b (w .0) (w .1); holds = λ i x. none-in nobody i refl x; within-both = λ i x. ∪-right nobody (everyone n) i (everyone-all n b (w .0) i x) }))
+        let w = setsThat-out n (minimalBlocking n s) b m in
+        between-finds mono (suc n) nobody (everyone n) b (pow-pos n) (everyone-lt n) (let l = size-le n (everyone n) in omega arith)
+        (record { minimal = minimal-is b (w .0) (w .1); holds = λ i x. none-in nobody i refl x; within-both = λ i x. ∪-right nobody (everyone n) i (everyone-all n b (w .0) i x) }))
 
     pub blocking-splits : Splits (blockingTree n s)
     unfolding blockingTree

@@ -110,8 +110,8 @@ module _ (n : ℕ) (s : ℕ → ℕ → Bool) where
           below = greatest-lt d u;
           apart = greatest-apart d u;
           met = λ i p.
-            let w = greatest-from d u i p in
-            mono (w .0 ∪ d) (greatest n s d u ∪ d) i (∪-grows (w .0) (greatest n s d u) d (greatest-has d u (w .0) (w .1) (w .2))) (w .1 .met i (w .3))
+              let w = greatest-from d u i p in
+              mono (w .0 ∪ d) (greatest n s d u ∪ d) i (∪-grows (w .0) (greatest n s d u) d (greatest-has d u (w .0) (w .1) (w .2))) (w .1 .met i (w .3));
         }
 
     -- a quorum is the greatest within itself, and only a quorum is, or nobody

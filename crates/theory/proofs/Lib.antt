@@ -6,3 +6,4 @@ pub mod QuorumTree
 pub mod Verdict
 pub mod Minimal
 pub mod Blocking
+pub mod Intact

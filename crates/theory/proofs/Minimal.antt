@@ -58,10 +58,10 @@ module _ (n : ℕ) (s : ℕ → ℕ → Bool) where
       record {
         is = quorum-is n s nobody u (w .0);
         least = λ q a f. within-same n q u (a .below) f
-          (fails (smaller q u) (λ x.
+            (fails (smaller q u) (λ x.
             clash (someSet n (λ q. quorum n s nobody q && smaller q u))
             (at-someSet n (λ q. quorum n s nobody q && smaller q u) q (a .below) (and-both (quorum n s nobody q) (smaller q u) (is-quorum n s nobody q a) x))
-            (not-holds (someSet n (λ q. quorum n s nobody q && smaller q u)) (w .1))))
+            (not-holds (someSet n (λ q. quorum n s nobody q && smaller q u)) (w .1))));
       }
 
   pub is-minimal : (u : ℕ) → Minimal u → minimalQuorum n s u ≡ true
@@ -69,10 +69,10 @@ module _ (n : ℕ) (s : ℕ → ℕ → Bool) where
   is-minimal u m =
       and-both (quorum n s nobody u) (not (someSet n (λ q. quorum n s nobody q && smaller q u))) (is-quorum n s nobody u (m .is))
       (ap not (fails (someSet n (λ q. quorum n s nobody q && smaller q u)) (λ x.
-        let w = someSet-at n (λ q. quorum n s nobody q && smaller q u) x in
-        let v = and-parts (quorum n s nobody (w .0)) (smaller (w .0) u) (w .2) in
-        let k = smaller-is (w .0) u (v .1) in
-        k .1 (m .least (w .0) (quorum-is n s nobody (w .0) (v .0)) (k .0)))))
+      let w = someSet-at n (λ q. quorum n s nobody q && smaller q u) x in
+      let v = and-parts (quorum n s nobody (w .0)) (smaller (w .0) u) (w .2) in
+      let k = smaller-is (w .0) u (v .1) in
+      k .1 (m .least (w .0) (quorum-is n s nobody (w .0) (v .0)) (k .0)))))
 
   abbrev atMinimal : ℕ → Tree ℕ
   atMinimal c = foundIf (minimalQuorum n s c) c
@@ -108,8 +108,8 @@ module _ (n : ℕ) (s : ℕ → ℕ → Bool) where
           let open-in : Sub (choices n s nobody c r) r = choices-open n s nobody c r in
           ⊎-elim
           (λ y. ⊎-elim (λ w. ∪-left c r i w)
-            (λ w. ∪-right c r i (open-in i (subst (In (choices n s nobody c r)) (sym (only-out i v w)) (chosen-in n s nobody c r z))))
-            (∪-cases c (only v) i y))
+          (λ w. ∪-right c r i (open-in i (subst (In (choices n s nobody c r)) (sym (only-out i v w)) (chosen-in n s nobody c r z))))
+          (∪-cases c (only v) i y))
           (λ y. ∪-right c r i (open-in i (∖-out (choices n s nobody c r) (only v) i y .0)))
           (∪-cases (c ∪ only v) b i x)
 
@@ -121,18 +121,21 @@ module _ (n : ℕ) (s : ℕ → ℕ → Bool) where
           record {
             minimal = subst Minimal (sym (p .1)) (minimal-is c (p .0));
             holds = λ i x. subst (λ (y : ℕ). In y i) (sym (p .1)) x;
-            within-both = λ i x. ∪-left c r i (subst (λ (y : ℕ). In y i) (p .1) x)
+            within-both = λ i x. ∪-left c r i (subst (λ (y : ℕ). In y i) (p .1) x);
           }
       go (lost e k w z) ih = absurd (cast unsplit (tree-unsplit n s nobody never atMinimal f c r e k w z))
       go (parted e k w z) ih =
           ⊎-elim
           (λ x. let p = ih c x in
-            record { minimal = p .minimal; holds = p .holds;
-              within-both = λ i y. into-reach k z i (⊎-elim (λ a. ∪-left (c ∪ only v) b i (∪-left c (only v) i a)) (λ a. ∪-right (c ∪ only v) b i a) (∪-cases c b i (p .within-both i y))) })
+          record {
+            minimal = p .minimal;
+            holds = p .holds;
+            within-both = λ i y. into-reach k z i (⊎-elim (λ a. ∪-left (c ∪ only v) b i (∪-left c (only v) i a)) (λ a. ∪-right (c ∪ only v) b i a) (∪-cases c b i (p .within-both i y)));
+          })
           (λ x. let p = ih (c ∪ only v) x in
-            record { minimal = p .minimal; holds = λ i y. p .holds i (∪-left c (only v) i y); within-both = λ i y. into-reach k z i (p .within-both i y) })
+          record { minimal = p .minimal; holds = λ i y. p .holds i (∪-left c (only v) i y); within-both = λ i y. into-reach k z i (p .within-both i y) })
           (among-cases q (finds (tree f c b)) (finds (tree f (c ∪ only v) b))
-            (cast (fork (tree f c b) (tree f (c ∪ only v) b)) (tree-fork n s nobody never atMinimal f c r e k w z)))
+          (cast (fork (tree f c b) (tree f (c ∪ only v) b)) (tree-fork n s nobody never atMinimal f c r e k w z)))
 
   module _ (mono : Monotone s) where
     -- ---- and each of them is
@@ -170,32 +173,32 @@ module _ (n : ℕ) (s : ℕ → ℕ → Bool) where
             let same : c ≡ q = m .minimal .least c (quorum-is n s nobody c w) (m .holds) in
             cast (atMinimal c) (tree-quorum n s nobody never atMinimal f c r e k w)
             (subst (λ (y : ℕ). Among y (finds (atMinimal c))) same
-              (maybe-found (minimalQuorum n s c) c (is-minimal c (subst Minimal (sym same) (m .minimal)))))
+            (maybe-found (minimalQuorum n s c) c (is-minimal c (subst Minimal (sym same) (m .minimal)))))
         go (lost e k w z) ih = absurd (some-choice n s nobody c r mono hc k w z)
         go (parted e k w z) ih =
             cast (fork (tree f c b) (tree f (c ∪ only v) b)) (tree-fork n s nobody never atMinimal f c r e k w z)
             (⊎-elim
-              (λ x. among-right q (finds (tree f c b)) (finds (tree f (c ∪ only v) b))
-                (ih (c ∪ only v) (∪-lt n c (only v) hc (only-lt n s nobody c r z)) z
-                  (record {
-                    minimal = m .minimal;
-                    holds = λ i y. ⊎-elim (m .holds i) (λ a. subst (In q) (sym (only-out i v a)) x) (∪-cases c (only v) i y);
-                    within-both = λ i y. ⊎-elim
-                      (⊎-elim (λ a. ∪-left (c ∪ only v) b i (∪-left c (only v) i a)) (λ a. ∪-left (c ∪ only v) b i (∪-right c (only v) i (subst (In (only v)) (sym a) (only-in v)))))
-                      (λ a. ∪-right (c ∪ only v) b i a)
-                      (reach-cases n s nobody c r z i (in-reach i y))
-                  })))
-              (λ x. among-left q (finds (tree f c b)) (finds (tree f (c ∪ only v) b))
-                (ih c hc z
-                  (record {
-                    minimal = m .minimal;
-                    holds = m .holds;
-                    within-both = λ i y. ⊎-elim
-                      (⊎-elim (λ a. ∪-left c b i a) (λ a. clash (has q v) (subst (In q) a y) x))
-                      (λ a. ∪-right c b i a)
-                      (reach-cases n s nobody c r z i (in-reach i y))
-                  })))
-              (either (has q v)))
+            (λ x. among-right q (finds (tree f c b)) (finds (tree f (c ∪ only v) b))
+            (ih (c ∪ only v) (∪-lt n c (only v) hc (only-lt n s nobody c r z)) z
+            (record {
+              minimal = m .minimal;
+              holds = λ i y. ⊎-elim (m .holds i) (λ a. subst (In q) (sym (only-out i v a)) x) (∪-cases c (only v) i y);
+              within-both = λ i y. ⊎-elim
+                  (⊎-elim (λ a. ∪-left (c ∪ only v) b i (∪-left c (only v) i a)) (λ a. ∪-left (c ∪ only v) b i (∪-right c (only v) i (subst (In (only v)) (sym a) (only-in v)))))
+                  (λ a. ∪-right (c ∪ only v) b i a)
+                  (reach-cases n s nobody c r z i (in-reach i y));
+            })))
+            (λ x. among-left q (finds (tree f c b)) (finds (tree f (c ∪ only v) b))
+            (ih c hc z
+            (record {
+              minimal = m .minimal;
+              holds = m .holds;
+              within-both = λ i y. ⊎-elim
+                  (⊎-elim (λ a. ∪-left c b i a) (λ a. clash (has q v) (subst (In q) a y) x))
+                  (λ a. ∪-right c b i a)
+                  (reach-cases n s nobody c r z i (in-reach i y));
+            })))
+            (either (has q v)))
 
   -- ---- in the listing order
   module _ (c r : ℕ) (k : dry n s nobody c r ≡ false) (z : ¬ (choices n s nobody c r ≡ nobody)) where
@@ -214,10 +217,10 @@ module _ (n : ℕ) (s : ℕ → ℕ → Bool) where
     unfolding v b
     lacks-v q f =
         fails (has q v) (λ x.
-          ⊎-elim
-          (λ y. clash (has c v) y (∖-out (reach n s nobody c r) c v v-in .1))
-          (λ y. clash (has (only v) v) (only-in v) (∖-out (choices n s nobody c r) (only v) v y .1))
-          (∪-cases c b v (f v x)))
+        ⊎-elim
+        (λ y. clash (has c v) y (∖-out (reach n s nobody c r) c v v-in .1))
+        (λ y. clash (has (only v) v) (only-in v) (∖-out (choices n s nobody c r) (only v) v y .1))
+        (∪-cases c b v (f v x)))
 
     -- a node lower than v is in q, where q holds c and is in reach, exactly when it is in c
     low-in : (q i : ℕ) → i < v → Sub c q → Sub q (reach n s nobody c r) → has q i ≡ has c i
@@ -225,8 +228,8 @@ module _ (n : ℕ) (s : ℕ → ℕ → Bool) where
     low-in q i l f g =
         bool-ext (has q i) (has c i)
         (λ x. ⊎-elim (λ y. y)
-          (λ y. clash (has (choices n s nobody c r) i) (∖-in (reach n s nobody c r) c i (g i x) y) (lowest-first n (choices n s nobody c r) i l))
-          (either (has c i)))
+        (λ y. clash (has (choices n s nobody c r) i) (∖-in (reach n s nobody c r) c i (g i x) y) (lowest-first n (choices n s nobody c r) i l))
+        (either (has c i)))
         (f i)
 
     reach-c : Sub c (reach n s nobody c r)
@@ -246,10 +249,10 @@ module _ (n : ℕ) (s : ℕ → ℕ → Bool) where
           lacks = lacks-v q (x .within-both);
           holds = y .holds v (∪-right c (only v) v (only-in v));
           alike = λ i l.
-            low-in q i l (x .holds) (λ j p. ⊎-elim (reach-c j) (reach-b j) (∪-cases c b j (x .within-both j p)))
-            ∙ sym (low-in q' i l (λ j p. y .holds j (∪-left c (only v) j p))
+              low-in q i l (x .holds) (λ j p. ⊎-elim (reach-c j) (reach-b j) (∪-cases c b j (x .within-both j p)))
+              ∙ sym (low-in q' i l (λ j p. y .holds j (∪-left c (only v) j p))
               (λ j p. ⊎-elim (λ w. ⊎-elim (reach-c j) (λ u. subst (In (reach n s nobody c r)) (sym (only-out j v u)) reach-v) (∪-cases c (only v) j w)) (reach-b j)
-                (∪-cases (c ∪ only v) b j (y .within-both j p))))
+              (∪-cases (c ∪ only v) b j (y .within-both j p))));
         }
 
   pub finds-rise : (f c r : ℕ) → Rising (finds (tree f c r))
@@ -270,7 +273,7 @@ module _ (n : ℕ) (s : ℕ → ℕ → Bool) where
           let c' = c ∪ only (chosen n s nobody c r) in
           cast (fork (tree f c b') (tree f c' b')) (tree-fork n s nobody never atMinimal f c r e k w z)
           (rising-append (finds (tree f c b')) (finds (tree f c' b')) (ih c) (ih c')
-            (λ q q' x y. ahead c r k z q q' (finds-between f c b' q x) (finds-between f c' b' q' y)))
+          (λ q q' x y. ahead c r k z q q' (finds-between f c b' q x) (finds-between f c' b' q' y)))
 
   -- ---- the list
   module _ (mono : Monotone s) where
@@ -279,11 +282,11 @@ module _ (n : ℕ) (s : ℕ → ℕ → Bool) where
     minimal-finds =
         rising-same (finds (tree (suc n) nobody (everyone n))) (setsThat n (minimalQuorum n s)) (finds-rise (suc n) nobody (everyone n)) (setsThat-rise n (minimalQuorum n s))
         (λ q m. let w = finds-between (suc n) nobody (everyone n) q m in
-          setsThat-in n (minimalQuorum n s) q (w .minimal .is .below) (is-minimal q (w .minimal)))
+        setsThat-in n (minimalQuorum n s) q (w .minimal .is .below) (is-minimal q (w .minimal)))
         (λ q m.
-          let w = setsThat-out n (minimalQuorum n s) q m in
-          between-finds mono (suc n) nobody (everyone n) q (pow-pos n) (everyone-lt n) (let l = size-le n (everyone n) in omega arith)
-          (record { minimal = minimal-is q (w .1); holds = λ i x. none-in nobody i refl x; within-both = λ i x. ∪-right nobody (everyone n) i (everyone-all n q (w .0) i x) }))
+        let w = setsThat-out n (minimalQuorum n s) q m in
+        between-finds mono (suc n) nobody (everyone n) q (pow-pos n) (everyone-lt n) (let l = size-le n (everyone n) in omega arith)
+        (record { minimal = minimal-is q (w .1); holds = λ i x. none-in nobody i refl x; within-both = λ i x. ∪-right nobody (everyone n) i (everyone-all n q (w .0) i x) }))
 
     pub minimal-splits : Splits (minimalTree n s)
     unfolding minimalTree

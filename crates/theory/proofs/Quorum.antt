@@ -51,7 +51,7 @@ module _ (n : ℕ) (s : ℕ → ℕ → Bool) where
         some-node = eqb-false u 0 (not-holds (empty u) (b .0));
         below = within-lt n u (ground n s d) (ground-lt d) (b .1);
         apart = λ i p. ground-out d i (within-sub u (ground n s d) (b .1) i p) .1;
-        met = each-at n u (λ v. s (u ∪ d) v) (a .1)
+        met = each-at n u (λ v. s (u ∪ d) v) (a .1);
       }
 
   pub is-quorum : (d u : ℕ) → Quorum d u → quorum n s d u ≡ true
@@ -74,9 +74,9 @@ module _ (n : ℕ) (s : ℕ → ℕ → Bool) where
           below = ∪-lt n p q (a .below) (b .below);
           apart = λ i x. ⊎-elim (a .apart i) (b .apart i) (∪-cases p q i x);
           met = λ i x. ⊎-elim
-            (λ y. mono (p ∪ d) ((p ∪ q) ∪ d) i (∪-grows p (p ∪ q) d (∪-left p q)) (a .met i y))
-            (λ y. mono (q ∪ d) ((p ∪ q) ∪ d) i (∪-grows q (p ∪ q) d (∪-right p q)) (b .met i y))
-            (∪-cases p q i x)
+              (λ y. mono (p ∪ d) ((p ∪ q) ∪ d) i (∪-grows p (p ∪ q) d (∪-left p q)) (a .met i y))
+              (λ y. mono (q ∪ d) ((p ∪ q) ∪ d) i (∪-grows q (p ∪ q) d (∪-right p q)) (b .met i y))
+              (∪-cases p q i x);
         }
 
     -- deletion: with e counted out too, what is left of a quorum is a quorum
@@ -86,9 +86,9 @@ module _ (n : ℕ) (s : ℕ → ℕ → Bool) where
           some-node = z;
           below = ∖-lt n q e (a .below);
           apart = λ i x.
-            let y = ∖-out q e i x in
-            fails (has (d ∪ e) i) (λ w. ⊎-elim (λ u. clash (has d i) u (a .apart i (y .0))) (λ u. clash (has e i) u (y .1)) (∪-cases d e i w));
-          met = λ i x. mono (q ∪ d) ((q ∖ e) ∪ (d ∪ e)) i kept (a .met i (∖-out q e i x .0))
+              let y = ∖-out q e i x in
+              fails (has (d ∪ e) i) (λ w. ⊎-elim (λ u. clash (has d i) u (a .apart i (y .0))) (λ u. clash (has e i) u (y .1)) (∪-cases d e i w));
+          met = λ i x. mono (q ∪ d) ((q ∖ e) ∪ (d ∪ e)) i kept (a .met i (∖-out q e i x .0));
         }
       where
         kept : Sub (q ∪ d) ((q ∖ e) ∪ (d ∪ e))
@@ -107,7 +107,7 @@ module _ (n : ℕ) (s : ℕ → ℕ → Bool) where
       (λ x. x)
       (or-cases (not (quorum n s d p && quorum n s d q)) (meets p q)
       (allSets-at n (λ y. not (quorum n s d p && quorum n s d y) || meets p y)
-        (allSets-at n (λ x. allSets n (λ y. not (quorum n s d x && quorum n s d y) || meets x y)) e p (a .below)) q (b .below)))
+      (allSets-at n (λ x. allSets n (λ y. not (quorum n s d x && quorum n s d y) || meets x y)) e p (a .below)) q (b .below)))
 
   pub is-intersecting : (d : ℕ) → ((p q : ℕ) → Quorum d p → Quorum d q → meets p q ≡ true) → intersecting n s d ≡ true
   unfolding intersecting
@@ -116,6 +116,6 @@ module _ (n : ℕ) (s : ℕ → ℕ → Bool) where
       at-allSets n (λ y. not (quorum n s d p && quorum n s d y) || meets p y) (λ q hq.
       ⊎-elim
       (λ x. let w = and-parts (quorum n s d p) (quorum n s d q) x in
-        or-right (not (quorum n s d p && quorum n s d q)) (meets p q) (f p q (quorum-is d p (w .0)) (quorum-is d q (w .1))))
+      or-right (not (quorum n s d p && quorum n s d q)) (meets p q) (f p q (quorum-is d p (w .0)) (quorum-is d q (w .1))))
       (λ x. or-left (not (quorum n s d p && quorum n s d q)) (meets p q) (ap not x))
       (either (quorum n s d p && quorum n s d q))))

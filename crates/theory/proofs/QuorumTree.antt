@@ -136,7 +136,7 @@ module _ {A : Type 0} (n : ℕ) (s : ℕ → ℕ → Bool) (d : ℕ) (prune : �
       (λ e. ⊎-elim (dried e)
       (λ k. ⊎-elim (quorate e k)
       (λ q. ⊎-elim (λ z. lost e k q (eqb-true (choices n s d c r) 0 z)) (λ z. parted e k q (eqb-false (choices n s d c r) 0 z))
-        (either (empty (choices n s d c r))))
+      (either (empty (choices n s d c r))))
       (either (quorum n s d c)))
       (either (dry n s d c r)))
       (either (prune c))
@@ -166,7 +166,7 @@ module _ {A : Type 0} (n : ℕ) (s : ℕ → ℕ → Bool) (d : ℕ) (prune : �
       let b = below-lt n s d c r in
       tree-fork n c r e k q z
       ∙ ap₂ fork (sym (tree-suc n c (below n s d c r) hc b l))
-        (sym (tree-suc n (c ∪ only (chosen n s d c r)) (below n s d c r) (∪-lt n c (only (chosen n s d c r)) hc (only-lt n s d c r z)) b l))
+      (sym (tree-suc n (c ∪ only (chosen n s d c r)) (below n s d c r) (∪-lt n c (only (chosen n s d c r)) hc (only-lt n s d c r z)) b l))
 
   -- ---- whatever is found on the way
   module _ (mono : Monotone s) where

@@ -87,9 +87,9 @@ module _ (n : ℕ) (s : ℕ → ℕ → Bool) (d : ℕ) where
   left-suc zero u h z l = let p = some-size u h z in let q : ⊥ = omega arith in absurd q
   left-suc (suc f) u h z l =
       let ih : lastRound n s d u ≡ false → leftFrom n s d (suc f) (round n s d u) ≡ leftFrom n s d f (round n s d u) =
-        λ e. let w = not-last u e in
-          let less = round-less u h (w .0) in
-          left-suc f (round n s d u) (round-lt u) (w .1) (omega arith) in
+      λ e. let w = not-last u e in
+      let less = round-less u h (w .0) in
+      left-suc f (round n s d u) (round-lt u) (w .1) (omega arith) in
       ⊎-elim (λ e. left-last (suc f) u e ∙ sym (left-last f u e)) (λ e. left-more (suc f) u e ∙ ih e ∙ sym (left-more f u e))
       (either (lastRound n s d u))
 
@@ -97,9 +97,9 @@ module _ (n : ℕ) (s : ℕ → ℕ → Bool) (d : ℕ) where
   rounds-suc zero u h z l = let p = some-size u h z in let q : ⊥ = omega arith in absurd q
   rounds-suc (suc f) u h z l =
       let ih : lastRound n s d u ≡ false → roundsFrom n s d (suc f) (round n s d u) ≡ roundsFrom n s d f (round n s d u) =
-        λ e. let w = not-last u e in
-          let less = round-less u h (w .0) in
-          rounds-suc f (round n s d u) (round-lt u) (w .1) (omega arith) in
+      λ e. let w = not-last u e in
+      let less = round-less u h (w .0) in
+      rounds-suc f (round n s d u) (round-lt u) (w .1) (omega arith) in
       ⊎-elim (λ e. rounds-last (suc f) u e ∙ sym (rounds-last f u e)) (λ e. rounds-more (suc f) u e ∙ ap suc (ih e) ∙ sym (rounds-more f u e))
       (either (lastRound n s d u))
 
@@ -122,10 +122,10 @@ module _ (n : ℕ) (s : ℕ → ℕ → Bool) (d : ℕ) where
   rounds-bounds (suc f) u h z l =
       let p = some-size u h z in
       let ih : lastRound n s d u ≡ false → roundsFrom n s d f (round n s d u) < size n u =
-        λ e. let w = not-last u e in
-          let less = round-less u h (w .0) in
-          let b = rounds-bounds f (round n s d u) (round-lt u) (w .1) (omega arith) in
-          omega arith in
+      λ e. let w = not-last u e in
+      let less = round-less u h (w .0) in
+      let b = rounds-bounds f (round n s d u) (round-lt u) (w .1) (omega arith) in
+      omega arith in
       ⊎-elim
       (λ e. let r = rounds-last f u e in (omega arith, omega arith))
       (λ e. let r = rounds-more f u e in let b = ih e in (omega arith, omega arith))
@@ -145,15 +145,15 @@ module _ (n : ℕ) (s : ℕ → ℕ → Bool) (d : ℕ) where
   left-settled zero u h z l = let p = some-size u h z in let q : ⊥ = omega arith in absurd q
   left-settled (suc f) u h z l =
       let ih : lastRound n s d u ≡ false → (leftFrom n s d (suc f) u ≡ nobody) ⊎ (round n s d (leftFrom n s d (suc f) u) ≡ leftFrom n s d (suc f) u) =
-        λ e. let w = not-last u e in
-          let less = round-less u h (w .0) in
-          subst (λ (m : ℕ). (m ≡ nobody) ⊎ (round n s d m ≡ m)) (sym (left-more f u e))
-          (left-settled f (round n s d u) (round-lt u) (w .1) (omega arith)) in
+      λ e. let w = not-last u e in
+      let less = round-less u h (w .0) in
+      subst (λ (m : ℕ). (m ≡ nobody) ⊎ (round n s d m ≡ m)) (sym (left-more f u e))
+      (left-settled f (round n s d u) (round-lt u) (w .1) (omega arith)) in
       ⊎-elim
       (λ e. ⊎-elim
-        (λ x. inr (ap (round n s d) (left-last f u e ∙ x) ∙ sym (left-last f u e)))
-        (λ x. inl (left-last f u e ∙ x))
-        (last-is u e))
+      (λ x. inr (ap (round n s d) (left-last f u e ∙ x) ∙ sym (left-last f u e)))
+      (λ x. inl (left-last f u e ∙ x))
+      (last-is u e))
       ih
       (either (lastRound n s d u))
 
@@ -170,9 +170,9 @@ module _ (n : ℕ) (s : ℕ → ℕ → Bool) (d : ℕ) where
         absurd x
     left-has (suc g) u q a f h l i p =
         let ih : lastRound n s d u ≡ false → In (leftFrom n s d g (round n s d u)) i =
-          λ e. let w = not-last u e in
-            let less = round-less u h (w .0) in
-            left-has g (round n s d u) q a (quorum-stays u q a f) (round-lt u) (omega arith) i p in
+        λ e. let w = not-last u e in
+        let less = round-less u h (w .0) in
+        left-has g (round n s d u) q a (quorum-stays u q a f) (round-lt u) (omega arith) i p in
         ⊎-elim
         (λ e. subst (λ (m : ℕ). In m i) (sym (left-last g u e)) (quorum-stays u q a f i p))
         (λ e. subst (λ (m : ℕ). In m i) (sym (left-more g u e)) (ih e))
@@ -185,7 +185,7 @@ module _ (n : ℕ) (s : ℕ → ℕ → Bool) (d : ℕ) where
           some-node = z;
           below = subst (λ (m : ℕ). m < 2 ^ n) e (round-lt u);
           apart = f;
-          met = λ i p. round-out u i (subst (λ (m : ℕ). In m i) (sym e) p) .1
+          met = λ i p. round-out u i (subst (λ (m : ℕ). In m i) (sym e) p) .1;
         }
 
     pub quorum-settled : (u : ℕ) → Quorum n s d u → round n s d u ≡ u
@@ -203,11 +203,11 @@ module _ (n : ℕ) (s : ℕ → ℕ → Bool) (d : ℕ) where
         ⊎-elim
         (λ (e : empty (u ∖ d) ≡ true). rw (survivors, e) (greatest-unique n s d u nobody (pow-pos n) (λ q a f i p. out-of-start e q a f i p) (inl refl)))
         (λ (e : empty (u ∖ d) ≡ false). rw (survivors, e)
-          (greatest-unique n s d u (leftFrom n s d n (u ∖ d)) (left-lt e) (λ q a f. left-has n (u ∖ d) q a (into-start q a f) (start-lt u h) (size-le n (u ∖ d)))
-          (⊎-elim
-            (λ x. inl x)
-            (λ x. left-quorum e x)
-            (left-settled n (u ∖ d) (start-lt u h) (eqb-false (u ∖ d) 0 e) (size-le n (u ∖ d))))))
+        (greatest-unique n s d u (leftFrom n s d n (u ∖ d)) (left-lt e) (λ q a f. left-has n (u ∖ d) q a (into-start q a f) (start-lt u h) (size-le n (u ∖ d)))
+        (⊎-elim
+        (λ x. inl x)
+        (λ x. left-quorum e x)
+        (left-settled n (u ∖ d) (start-lt u h) (eqb-false (u ∖ d) 0 e) (size-le n (u ∖ d))))))
         (either (empty (u ∖ d)))
       where
         into-start : (q : ℕ) → Quorum n s d q → Sub q u → Sub q (u ∖ d)

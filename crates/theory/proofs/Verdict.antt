@@ -73,7 +73,7 @@ module _ (n : ℕ) (s : ℕ → ℕ → Bool) (d : ℕ) where
           first-is = q;
           second-is = greatest-quorum n s mono d (ground n s d ∖ c) (holds-greatest n s d (ground n s d ∖ c) (w .0));
           apart = apart-none n c h (q .below) (λ i p. fails (has h i) (λ y. clash (has c i) p (∖-out (ground n s d) c i (greatest-sub n s d (ground n s d ∖ c) i y) .1)));
-          largest = refl
+          largest = refl;
         })
 
     pair-found : (c e : ℕ) → Quorum n s d e → ((i : ℕ) → In e i → has c i ≡ false) → (x : Pair) × Among x (finds (pairAt n s d c))
@@ -111,7 +111,7 @@ module _ (n : ℕ) (s : ℕ → ℕ → Bool) (d : ℕ) where
             let c' = c ∪ only (chosen n s d c r) in
             ⊎-elim (ih c) (ih c')
             (among-cases x (finds (tree f c b)) (finds (tree f c' b))
-              (cast (fork (tree f c b) (tree f c' b)) (tree-fork n s d (overHalf n s d) (pairAt n s d) f c r e k q z)))
+            (cast (fork (tree f c b) (tree f c' b)) (tree-fork n s d (overHalf n s d) (pairAt n s d) f c r e k q z)))
 
     -- ---- completeness: p, with at most half of the ground, and e apart from it
     module _ (p e : ℕ) (qp : Quorum n s d p) (qe : Quorum n s d e) (half : size n p ≤ size n (ground n s d) / 2) (apart : (i : ℕ) → In e i → has p i ≡ false) where
@@ -152,7 +152,7 @@ module _ (n : ℕ) (s : ℕ → ℕ → Bool) (d : ℕ) where
           with-v z i x =
               ⊎-elim
               (⊎-elim (λ y. ∪-left (c ∪ only v) b i (∪-left c (only v) i y))
-                (λ y. ∪-left (c ∪ only v) b i (∪-right c (only v) i (subst (In (only v)) (sym y) (only-in v)))))
+              (λ y. ∪-left (c ∪ only v) b i (∪-right c (only v) i (subst (In (only v)) (sym y) (only-in v)))))
               (λ y. ∪-right (c ∪ only v) b i y)
               (reach-cases n s d c r z i (in-reach i x))
 
@@ -171,11 +171,11 @@ module _ (n : ℕ) (s : ℕ → ℕ → Bool) (d : ℕ) where
           go (parted k k' q z) ih =
               cast (fork (tree f c b) (tree f (c ∪ only v) b)) (tree-fork n s d (overHalf n s d) (pairAt n s d) f c r k k' q z)
               (⊎-elim
-                (λ x. let w = ih (c ∪ only v) (∪-lt n c (only v) hc (only-lt n s d c r z)) z (v-within x) (with-v z) in
-                  (w .0, among-right (w .0) (finds (tree f c b)) (finds (tree f (c ∪ only v) b)) (w .1)))
-                (λ x. let w = ih c hc z cp (without-v z x) in
-                  (w .0, among-left (w .0) (finds (tree f c b)) (finds (tree f (c ∪ only v) b)) (w .1)))
-                (either (has p v)))
+              (λ x. let w = ih (c ∪ only v) (∪-lt n c (only v) hc (only-lt n s d c r z)) z (v-within x) (with-v z) in
+              (w .0, among-right (w .0) (finds (tree f c b)) (finds (tree f (c ∪ only v) b)) (w .1)))
+              (λ x. let w = ih c hc z cp (without-v z x) in
+              (w .0, among-left (w .0) (finds (tree f c b)) (finds (tree f (c ∪ only v) b)) (w .1)))
+              (either (has p v)))
 
     -- ---- the verdict
     pub verdict-splits : Splits (verdictTree n s d)
@@ -197,11 +197,11 @@ module _ (n : ℕ) (s : ℕ → ℕ → Bool) (d : ℕ) where
         let sum = apart-size n p q (ground n s d) (in-ground p a) (in-ground q b) e in
         ⊎-elim
         (λ (l : size n p ≤ size n (ground n s d) / 2).
-          finds-some p q a b l (λ i x. fails (has p i) (λ y. none-in (p ∩ q) i e (∩-in p q i y x))) (suc n) nobody (ground n s d) (pow-pos n) (ground-lt n s d)
-          (size-fits (ground n s d)) (λ i x. none-in nobody i refl x) (λ i x. ∪-right nobody (ground n s d) i (in-ground p a i x)))
+        finds-some p q a b l (λ i x. fails (has p i) (λ y. none-in (p ∩ q) i e (∩-in p q i y x))) (suc n) nobody (ground n s d) (pow-pos n) (ground-lt n s d)
+        (size-fits (ground n s d)) (λ i x. none-in nobody i refl x) (λ i x. ∪-right nobody (ground n s d) i (in-ground p a i x)))
         (λ (l : size n (ground n s d) / 2 < size n p).
-          finds-some q p b a (omega arith) (λ i x. fails (has q i) (λ y. none-in (p ∩ q) i e (∩-in p q i x y))) (suc n) nobody (ground n s d) (pow-pos n) (ground-lt n s d)
-          (size-fits (ground n s d)) (λ i x. none-in nobody i refl x) (λ i x. ∪-right nobody (ground n s d) i (in-ground q b i x)))
+        finds-some q p b a (omega arith) (λ i x. fails (has q i) (λ y. none-in (p ∩ q) i e (∩-in p q i x y))) (suc n) nobody (ground n s d) (pow-pos n) (ground-lt n s d)
+        (size-fits (ground n s d)) (λ i x. none-in nobody i refl x) (λ i x. ∪-right nobody (ground n s d) i (in-ground q b i x)))
         (le-or-lt (size n p) (size n (ground n s d) / 2))
       where
         in-ground : (u : ℕ) → Quorum n s d u → Sub u (ground n s d)
@@ -230,13 +230,13 @@ module _ (n : ℕ) (s : ℕ → ℕ → Bool) (d : ℕ) where
         go (at-end e z) =
             all-meet (visits (verdictTree n s d)) e
             (is-intersecting n s d (λ p q a b.
-              ⊎-elim (λ m. m)
-              (λ m. let w = verdict-complete p q a b (not-meets p q m) in absurd (subst (Among (w .0)) z (w .1)))
-              (either (meets p q))))
+            ⊎-elim (λ m. m)
+            (λ m. let w = verdict-complete p q a b (not-meets p q m) in absurd (subst (Among (w .0)) z (w .1)))
+            (either (meets p q))))
             verdict-visits
         go (at-find x k e m l h) =
             let w = verdict-sound x m in
             two-apart x k e w
             (fails (intersecting n s d) (λ i.
-              clash (meets (x .first) (x .second)) (intersecting-is n s d i (x .first) (x .second) (w .first-is) (w .second-is)) (meets-not (x .first) (x .second) (w .apart))))
+            clash (meets (x .first) (x .second)) (intersecting-is n s d i (x .first) (x .second) (w .first-is) (w .second-is)) (meets-not (x .first) (x .second) (w .apart))))
             (let v = verdict-visits in omega arith)
