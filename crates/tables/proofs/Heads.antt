@@ -1,0 +1,96 @@
+-- The records that open nodes, as a walk from the first record on meets them: a record at level 0 is the head of the node whose
+-- number is how many heads stand before it.
+use mathlib.Core.Path.{_≡_, refl, sym, ap, _∙_}
+use mathlib.Core.Bool.{Bool, true, false}
+use mathlib.Core.List.{List, _∷_, _++_}
+use Prim.Native.Nat.{ℕ, zero, suc, _+_, _-_, _≤_, _<_}
+use native.Mathlib.Nat.{zero-add, add-zero}
+use native.Mathlib.Numerals.{add-one}
+use native.Mathlib.Omega.{arith}
+use borrow.Author.Tests.{eq-eqb, ne-eqb, eqb-true}
+use lib.Dec.{eqb}
+use lib.ListN.{length, getD, length-append}
+use lib.Seq.{getD-append-add}
+use Rattle.sets.specs.Lists.{keep, consIf, from}
+use Rattle.meanings.specs.Table.{records, level, heads, nodes, headOf}
+use Rattle.tables.specs.Run.{bump}
+use Rattle.tables.proofs.Lists.{keep-split, keep-last, keep-at, Picked}
+
+-- whether a record opens a node; which of the n records from a on do, and how many of those before record r
+abbrev pub isHead : List ℕ → ℕ → Bool
+isHead t r = eqb (level t r) 0
+
+abbrev pub headsIn : List ℕ → ℕ → ℕ → List ℕ
+headsIn t a n = keep (λ j. eqb (level t j) 0) (from a n)
+
+abbrev pub headsBefore : List ℕ → ℕ → ℕ
+headsBefore t r = length (headsIn t 0 r)
+
+pub before-first : (t : List ℕ) → headsBefore t 0 ≡ 0
+unfolding keep from
+before-first t = refl
+
+pub before-all : (t : List ℕ) → headsBefore t (records t) ≡ nodes t
+unfolding nodes heads
+before-all t = refl
+
+module _ (t : List ℕ) (r : ℕ) where
+  before-step : headsBefore t (suc r) ≡ bump (isHead t r) (headsBefore t r)
+  before-step = keep-last (isHead t) 0 r ∙ ap (λ (k : ℕ). bump (isHead t k) (headsBefore t r)) (zero-add r)
+
+  pub head-step : level t r ≡ 0 → headsBefore t (r + 1) ≡ suc (headsBefore t r)
+  head-step e = ap (headsBefore t) (add-one r) ∙ before-step ∙ rw (eq-eqb (level t r) 0 e)
+
+  pub inner-step : ¬ (level t r ≡ 0) → headsBefore t (r + 1) ≡ headsBefore t r
+  inner-step e = ap (headsBefore t) (add-one r) ∙ before-step ∙ rw (ne-eqb (level t r) 0 e)
+
+bump-le : (b : Bool) (n : ℕ) → bump b n ≤ suc n
+bump-le true n = omega arith
+bump-le false n = omega arith
+
+pub step-le : (t : List ℕ) (r : ℕ) → headsBefore t (suc r) ≤ suc (headsBefore t r)
+step-le t r = let e = before-step t r in let h = bump-le (isHead t r) (headsBefore t r) in omega arith
+
+pub before-le : (t : List ℕ) (r : ℕ) → headsBefore t r ≤ r
+before-le t zero = let e = before-first t in omega arith
+before-le t (suc r) = let h = step-le t r in let l = before-le t r in omega arith
+
+-- the heads, parted at a record that is one
+module _ (t : List ℕ) (r : ℕ) (l : r < records t) (e : level t r ≡ 0) where
+  abbrev after : List ℕ
+  after = headsIn t (suc r) (records t - suc r)
+
+  heads-parted : heads t ≡ headsIn t 0 r ++ (r ∷ after)
+  unfolding heads keep from
+  heads-parted =
+      let k : records t ≡ r + suc (records t - suc r) = omega arith in
+      ap (headsIn t 0) k
+      ∙ keep-split (isHead t) 0 r (suc (records t - suc r))
+      ∙ ap (λ (n : ℕ). headsIn t 0 r ++ headsIn t n (suc (records t - suc r))) (zero-add r)
+      ∙ ap (λ (b : Bool). headsIn t 0 r ++ consIf b r after) (eq-eqb (level t r) 0 e)
+
+  -- a record at level 0 is the head of the node that the heads before it number
+  pub head-of : headOf t (headsBefore t r) ≡ r
+  unfolding headOf
+  head-of =
+      ap (λ (m : List ℕ). getD m (headsBefore t r) 0) heads-parted
+      ∙ ap (λ (n : ℕ). getD (headsIn t 0 r ++ (r ∷ after)) n 0) (sym (add-zero (headsBefore t r)))
+      ∙ getD-append-add (headsIn t 0 r) (r ∷ after) 0 0
+
+  pub head-node : headsBefore t r < nodes t
+  unfolding nodes
+  head-node =
+      let n : nodes t ≡ headsBefore t r + suc (length after) = ap length heads-parted ∙ length-append (headsIn t 0 r) (r ∷ after) in
+      omega arith
+
+-- the head of a node is a record at level 0
+module _ (t : List ℕ) (v : ℕ) (l : v < nodes t) where
+  picked : Picked (isHead t) 0 (records t) (headOf t v)
+  unfolding nodes heads headOf
+  picked = keep-at (isHead t) 0 (records t) v l
+
+  pub headOf-lt : headOf t v < records t
+  headOf-lt = let w = picked .to-last in omega arith
+
+  pub headOf-level : level t (headOf t v) ≡ 0
+  headOf-level = eqb-true (level t (headOf t v)) 0 (picked .passes)

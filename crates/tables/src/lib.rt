@@ -1,0 +1,35 @@
+// The packed table (document 01, 'The packed table'): reading a record. Records are counted from 0.
+ghost use mathlib.Core.Path.{_≡_};
+ghost use Prim.Native.Nat.{ℕ, _+_, _*_, _<_, _^_};
+ghost use lib.ListN.{length};
+ghost use Rattle.meanings.specs.Table.{control as controlOf, level as levelOf, threshold as thresholdOf, members as membersOf};
+
+// The control word, threshold + 256 x level.
+pub fn control(t: &[u64], r: usize) -> u64
+    requires { ⌜ 2 * r + 1 < length (now t) ⌝ }
+    ensures { λ o. ⌜ o ≡ controlOf (now (t .entry)) r ⌝ }
+{
+    t[2 * r]
+}
+
+pub fn level(t: &[u64], r: usize) -> u64
+    requires { ⌜ 2 * r + 1 < length (now t) ⌝ }
+    ensures { λ o. ⌜ (o ≡ levelOf (now (t .entry)) r) × (o < 2 ^ 56) ⌝ }
+{
+    t[2 * r] / 256
+}
+
+pub fn threshold(t: &[u64], r: usize) -> u64
+    requires { ⌜ 2 * r + 1 < length (now t) ⌝ }
+    ensures { λ o. ⌜ (o ≡ thresholdOf (now (t .entry)) r) × (o < 256) ⌝ }
+{
+    t[2 * r] % 256
+}
+
+// The member mask: node i has the value 2^i.
+pub fn members(t: &[u64], r: usize) -> u64
+    requires { ⌜ 2 * r + 1 < length (now t) ⌝ }
+    ensures { λ o. ⌜ (o ≡ membersOf (now (t .entry)) r) × (o < 2 ^ 64) ⌝ }
+{
+    t[2 * r + 1]
+}
