@@ -8,23 +8,13 @@ use native.Mathlib.Nat.{zero-add, add-zero}
 use native.Mathlib.Numerals.{add-one}
 use native.Mathlib.Omega.{arith}
 use borrow.Author.Tests.{eq-eqb, ne-eqb, eqb-true}
-use lib.Dec.{eqb}
 use lib.ListN.{length, getD, length-append}
 use lib.Seq.{getD-append-add}
 use Rattle.sets.specs.Lists.{keep, consIf, from}
 use Rattle.meanings.specs.Table.{records, level, heads, nodes, headOf}
 use Rattle.tables.specs.Run.{bump}
+use Rattle.tables.specs.Heads.{isHead, headsIn, headsBefore}
 use Rattle.tables.proofs.Lists.{keep-split, keep-last, keep-at, Picked}
-
--- whether a record opens a node; which of the n records from a on do, and how many of those before record r
-abbrev pub isHead : List ℕ → ℕ → Bool
-isHead t r = eqb (level t r) 0
-
-abbrev pub headsIn : List ℕ → ℕ → ℕ → List ℕ
-headsIn t a n = keep (λ j. eqb (level t j) 0) (from a n)
-
-abbrev pub headsBefore : List ℕ → ℕ → ℕ
-headsBefore t r = length (headsIn t 0 r)
 
 pub before-first : (t : List ℕ) → headsBefore t 0 ≡ 0
 unfolding keep from

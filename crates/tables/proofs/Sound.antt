@@ -17,7 +17,8 @@ use Rattle.sets.proofs.Size.{le-or-lt}
 use Rattle.sets.proofs.Members.{everyone-lt, within-lt}
 use Rattle.meanings.specs.Table.{records, control, threshold, level, members, nodes, entries}
 use Rattle.meanings.specs.Faults.{Check, sound, fault, orElse, faultIf, firstFault, badCount, badControl, badLevel, surplus, noThreshold, strangers, tooHigh, shapeFault, entryFault, check}
-use Rattle.tables.proofs.Heads.{headsBefore, before-first, before-all, inner-step, step-le, head-node}
+use Rattle.tables.specs.Heads.{headsBefore}
+use Rattle.tables.proofs.Heads.{before-first, before-all, inner-step, step-le, head-node}
 
 -- ---- a check that finds nothing
 pub or-sound : (a b : Check) → orElse a b ≡ sound → (a ≡ sound) × (b ≡ sound)
@@ -142,22 +143,32 @@ module _ (t : List ℕ) where
         threshold-le = ltb-false (entries t r) (threshold t r) (f .1);
       }
 
+-- ---- no record meets any of 2 to 5
+module _ (t : List ℕ) (e : firstFault (shapeFault t) (from 0 (records t)) ≡ sound) where
+  shapes : (r : ℕ) → r < records t → Shaped t r
+  shapes r l = shaped t r (first-sound (shapeFault t) 0 (records t) e r (omega arith) (omega arith))
+
+  -- levels are in step
+  pub shapes-in-step : (r : ℕ) → r < records t → badLevel t r ≡ false
+  shapes-in-step r l = shapes r l .1
+
+  pub shapes-nodes : nodes t ≤ 64
+  shapes-nodes = subst (λ (m : ℕ). m ≤ 64) (before-all t) (heads-le t (records t) (λ r l. shapes r l .2))
+
 pub sound-table : (t : List ℕ) → check t ≡ sound → SoundTable t
 unfolding check
 sound-table t e =
     let p = check-parts (badCount t) (firstFault (shapeFault t) (from 0 (records t))) (firstFault (entryFault t) (from 0 (records t))) e in
     let k = counted t (p .0) in
-    let s : (r : ℕ) → r < records t → Shaped t r =
-    λ r l. shaped t r (first-sound (shapeFault t) 0 (records t) (p .1) r (omega arith) (omega arith)) in
+    let s = shapes t (p .1) in
     let f : (r : ℕ) → r < records t → (strangers t r ≡ false) × (tooHigh t r ≡ false) =
     λ r l. entered t r (first-sound (entryFault t) 0 (records t) (p .2) r (omega arith) (omega arith)) in
     let h = head-node t 0 (k .1) (first-head t (s 0 (k .1) .1)) in
-    let n = heads-le t (records t) (λ r l. s r l .2) in
     record {
       even = k .0;
       has-record = k .1;
       records-le = k .2;
       has-node = omega arith;
-      nodes-le = subst (λ (m : ℕ). m ≤ 64) (before-all t) n;
+      nodes-le = shapes-nodes t (p .1);
       at = λ r l. sound-record t r (s r l) (f r l);
     }
