@@ -1,0 +1,4 @@
+pub mod Order
+pub mod Numeral
+pub mod Round
+pub mod Place
