@@ -4,10 +4,10 @@ use Prim.Native.Nat.{ℕ, zero, suc, _+_, _*_, _/_, _%_, _^_, _≤_, _<_}
 use native.Mathlib.Omega.{arith}
 use native.Mathlib.Nat.{pow-succ'}
 use mathlib.Core.Path.{_≡_, refl, ap, _∙_}
-use mathlib.Core.List.{List, [], _∷_, _++_}
+use mathlib.Core.List.{List, [], _∷_, _++_, append-assoc}
 use mathlib.Core.Logic.{⊎-elim}
 use borrow.Author.Tests.{lt-ltb, le-ltb}
-use lib.ListN.{length, length-append}
+use lib.ListN.{length, getD, length-append}
 use Rattle.decimal.specs.Decimal.{digits, numeral}
 use Rattle.decimal.proofs.Order.{lt-or-le}
 
@@ -75,6 +75,18 @@ length-byte n h = length-below 2 n (omega arith)
 
 pub length-word : (n : ℕ) → n < 2 ^ 64 → length (numeral n) ≤ 20
 length-word n h = length-below 19 n (omega arith)
+
+-- a numeral starts with a digit
+first-below : (f n : ℕ) (t : List ℕ) → n ≤ f → 48 ≤ getD (numeral n ++ t) 0 0
+first-below zero n t a = let h : n < 10 = omega arith in rw (numeral-digit n h) (omega arith)
+first-below (suc f) n t a =
+    ⊎-elim
+    (λ p. rw (numeral-digit n p) (omega arith))
+    (λ p. rw (numeral-tens n p, append-assoc) (first-below f (n / 10) ((48 + n % 10) ∷ t) (omega arith)))
+    (lt-or-le n 10)
+
+pub numeral-first : (n : ℕ) (t : List ℕ) → 48 ≤ getD (numeral n ++ t) 0 0
+numeral-first n t = first-below n n t (omega arith)
 
 -- the definition computes: the greatest number of 64 bits has the twenty digits that `length-word` allows
 greatest-word : numeral 18446744073709551615 ≡ 49 ∷ 56 ∷ 52 ∷ 52 ∷ 54 ∷ 55 ∷ 52 ∷ 52 ∷ 48 ∷ 55 ∷ 51 ∷ 55 ∷ 48 ∷ 57 ∷ 53 ∷ 53 ∷ 49 ∷ 54 ∷ 49 ∷ 53 ∷ []

@@ -36,3 +36,8 @@ numberOf a b c =
 -- the number at the start of s, and how many bytes it takes
 unfoldable pub readNumber : List ℕ → Number
 readNumber s = numberOf (digitAt s 0) (digitAt s 1) (digitAt s 2)
+
+-- by cases on a number that was read
+abbrev pub onNumber : {A : Type 0} → Number → A → (ℕ → ℕ → A) → A
+onNumber Bad b f = b
+onNumber (Got v k) b f = f v k
