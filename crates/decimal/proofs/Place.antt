@@ -2,7 +2,7 @@
 use Prim.Native.Nat.{ℕ, suc, _+_, _-_, _≤_, _<_}
 use native.Mathlib.Omega.{arith}
 use native.Mathlib.Numerals.{add-one}
-use native.Mathlib.Nat.{add-assoc}
+use native.Mathlib.Nat.{add-assoc, zero-add}
 use mathlib.Core.Path.{_≡_, refl, ap, sym, _∙_}
 use mathlib.Core.List.{List, [], _∷_, _++_, append-assoc, append-nil}
 use lib.ListN.{length, take, drop, set, length-append, length-take, length-drop, drop-of-length-le}
@@ -52,3 +52,20 @@ front-set w x d h =
     let a : length (take (length w) d) ≡ length w = length-take-le (length w) d (omega arith) in
     rw (set-split d (length w) x h, drop-at (take (length w) d) (x ∷ drop (suc (length w)) d) (length w) a, length-append, add-one)
     (simp append-assoc)
+
+-- what is written behind a front makes a longer front
+pub front-place : (u v d : List ℕ) → length u + length v ≤ length d → atPlace (length u) v (atFront u d) ≡ atFront (u ++ v) d
+front-place u v d h =
+    let a : 0 + length u ≤ length d = omega arith in
+    let b : 0 + length u + length v ≤ length d = omega arith in
+    rw zero-add at (place-place 0 u d a v b)
+
+pub length-front : (w d : List ℕ) → length w ≤ length d → length (atFront w d) ≡ length d
+length-front w d h = let a : 0 + length w ≤ length d = omega arith in length-place 0 w d a
+
+pub front-byte : (w : List ℕ) (x : ℕ) (d : List ℕ) → length w < length d → set (atFront w d) (length w) x ≡ atFront (w ++ x ∷ []) d
+front-byte w x d h =
+    let a : length w ≤ length d = omega arith in
+    let b : length w + 1 ≤ length d = omega arith in
+    let g : length w < length (atFront w d) = omega (arith, length-front w d a) in
+    set-place (length w) x (atFront w d) g ∙ front-place w (x ∷ []) d b

@@ -95,3 +95,14 @@ length-members m =
     (λ e. rw (text-none m e) (omega arith))
     (λ n. rw (text-some m n) (length-ids m))
     (same-or-not m 0)
+
+-- a node that is in writes its id at least
+pub id-in : (i q : ℕ) → (q % 2 ≡ 0 → ⊥) → length (numeral i) ≤ length (idText i q)
+id-in i q n =
+    ⊎-elim
+    (λ e. rw (id-last i q n e) (omega arith))
+    (λ e. rw (id-more i q n e) (omega (arith, length-append (numeral i) (44 ∷ []))))
+    (same-or-not (q / 2) 0)
+
+pub length-more : (i q : ℕ) → (q % 2 ≡ 0 → ⊥) → (q / 2 ≡ 0 → ⊥) → length (numeral i) + 1 ≡ length (idText i q)
+length-more i q n e = rw (id-more i q n e) (sym (length-append (numeral i) (44 ∷ [])))

@@ -1,29 +1,31 @@
+-- The tests are those of what a node writes; an id below 64 takes at most two bytes, so the comma's fits.
 use borrow.Author.Needs.{needs}
+use native.Mathlib.Omega.{arith}
+use mathlib.Core.Path.{_≡_, ap, sym, _∙_}
+use lib.ListN.{length}
+use Rattle.decimal.proofs.Numeral.{length-id}
+use Rattle.members.proofs.Written.{id-out, id-last, length-more}
 use Rattle.members.proofs.id_len.Statement.{statement}
 use Rattle.members.proofs.id_len.Tie as tie
-use Rattle.members.proofs.id_len.Reads as reads
-use Rattle.members.proofs.id_len.Lts as lts
-use Rattle.decimal.proofs.number_len.Reads as number-len-reads
 
--- src/lib.rt:94:9
 returns : tie.Need-returns
-returns c = ?
+returns c = rw (id-out (c .before .args .i) (c .before .args .q) (c .if1 .taken))
 
--- src/lib.rt:96:9
 number-len-requires : tie.Need-number-len-requires
 number-len-requires c κs = search needs
 
--- src/lib.rt:98:9
 returns-2 : tie.Need-returns-2
-returns-2 c = ?
+returns-2 c =
+    let a = c .before .before .before .args in
+    rw (id-last (a .i) (a .q) (c .before .before .if1 .left) (c .if2 .taken)) (c .before .number-len .ensures)
 
--- src/lib.rt:100:5
 add-result : tie.Need-add-result
-add-result c = ?
+add-result c = omega (arith, length-id (c .before .before .before .args .i) (omega arith))
 
--- src/lib.rt:89:1
 returns-3 : tie.Need-returns-3
-returns-3 c = ?
+returns-3 c =
+    let a = c .before .before .before .args in
+    rw (c .before .number-len .ensures) (length-more (a .i) (a .q) (c .before .before .if1 .left) (c .if2 .left))
 
 pub id-len-spec : {M : Type 1} → statement M
 id-len-spec = tie.close (tie.spec returns number-len-requires returns-2 add-result returns-3)

@@ -1,41 +1,69 @@
+-- The id is written at the front and the comma right behind it, which is the same as writing both at once.
 use borrow.Author.Needs.{needs}
+use native.Mathlib.Omega.{arith}
+use Prim.Native.Nat.{_≤_, _<_}
+use mathlib.Core.Path.{_≡_, refl, sym, _∙_}
+use denote.Ref.{now}
+use lib.ListN.{length, length-set}
+use Rattle.decimal.specs.Bytes.{atFront}
+use Rattle.decimal.specs.Decimal.{numeral}
+use Rattle.decimal.proofs.Place.{front-byte}
+use Rattle.members.proofs.Written.{id-out, id-last, id-more, id-in, length-more}
 use Rattle.members.proofs.put_id.Statement.{statement}
 use Rattle.members.proofs.put_id.Tie as tie
-use Rattle.members.proofs.put_id.Reads as reads
-use Rattle.members.proofs.put_id.Lts as lts
-use Rattle.decimal.proofs.put_number.Reads as put-number-reads
 
--- src/lib.rt:128:9
 returns : tie.Need-returns
-returns c = ?
+returns c =
+    let a = c .before .before .args in
+    rw (id-out (a .i) (a .q) (c .if1 .taken)) (refl, refl)
 
--- src/lib.rt:130:9
 put-number-requires : tie.Need-put-number-requires
-put-number-requires c κs = ?
+put-number-requires c κs =
+    let a = c .before .before .before .args in
+    omega (arith, id-in (a .i) (a .q) (c .before .if1 .left))
 
--- src/lib.rt:132:9
 same-length : tie.Need-same-length
 same-length c = search needs
 
--- src/lib.rt:132:9
 returns-2 : tie.Need-returns-2
-returns-2 c = ?
+returns-2 c =
+    let p = c .before .before .before in
+    let e = p .before .before in
+    let a = e .before .before .args in
+    rw (id-last (a .i) (a .q) (e .if1 .left) (c .if2 .taken)) (p .put-number .ensures)
 
--- src/lib.rt:134:5
+-- there is room for the comma
+room : (c : tie.Else2) →
+    let p = c .before .before .before in
+    let a = p .before .before .before .before .args in
+    length (numeral (a .i)) < length (now (a .out))
+room c =
+    let e = c .before .before .before .before .before in
+    let a = e .before .before .args in
+    omega (arith, length-more (a .i) (a .q) (e .if1 .left) (c .if2 .left), e .before .before .pre)
+
 slice-write-out : tie.Need-slice-write-out
-slice-write-out c = ?
+slice-write-out c =
+    let p = c .before .before .before in
+    omega (arith, room c, p .put-number .ensures .0, p .put-number .kept .0)
 
--- src/lib.rt:135:5
 add-result : tie.Need-add-result
-add-result c = ?
+add-result c =
+    let p = c .before .before .before in
+    omega (arith, room c, p .put-number .ensures .0)
 
--- src/lib.rt:122:1
 same-length-2 : tie.Need-same-length-2
 same-length-2 c = search needs
 
--- src/lib.rt:122:1
 returns-3 : tie.Need-returns-3
-returns-3 c = ?
+returns-3 c =
+    let p = c .before .before .before in
+    let e = p .before .before in
+    let a = e .before .before .args in
+    rw (p .put-number .ensures .0, p .put-number .ensures .1) (
+      length-more (a .i) (a .q) (e .if1 .left) (c .if2 .left),
+      rw (id-more (a .i) (a .q) (e .if1 .left) (c .if2 .left)) (front-byte (numeral (a .i)) 44 (now (a .out)) (room c)),
+    )
 
 pub put-id-spec : {M : Type 1} → statement M
 put-id-spec =

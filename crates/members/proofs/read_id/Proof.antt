@@ -1,50 +1,61 @@
+-- Each return is one case of the definition: the number that was read, its two bounds, and the byte behind it.
 use borrow.Author.Needs.{needs}
+use borrow.Author.Tests.{lt-ltb, le-ltb, eq-eqb, ne-eqb}
+use native.Mathlib.Omega.{arith}
+use mathlib.Core.Path.{_≡_, sym, _∙_}
+use denote.Ref.{now}
+use Rattle.decimal.specs.Decimal.{readNumber}
+use Rattle.decimal.specs.declared.Number.the-variants.{Got}
+use Rattle.decimal.proofs.Round.{written-read}
+use Rattle.members.specs.Members.{readId}
 use Rattle.members.proofs.read_id.Statement.{statement}
 use Rattle.members.proofs.read_id.Tie as tie
-use Rattle.members.proofs.read_id.Reads as reads
-use Rattle.members.proofs.read_id.Lts as lts
-use Rattle.decimal.proofs.byte_at.Reads as byte-at-reads
-use Rattle.decimal.proofs.read_number.Reads as read-number-reads
 
--- src/lib.rt:36:29
+-- the number that was read
+read : (c : tie.After-known-told) →
+    readNumber (now (c .before .before .before .before .before .args .s)) ≡ Got (c .before .v .given .0 .0) (c .before .v .given .0 .1 .0)
+read c = sym (c .before .before .before .read-number .ensures) ∙ c .before .v .given .1
+
 read-number-requires : tie.Need-read-number-requires
 read-number-requires c κs = search needs
 
--- src/lib.rt:36:21
 enum-known-v : tie.Need-enum-known-v
 enum-known-v c = search needs
 
--- src/lib.rt:37:9
 enum-told : tie.Need-enum-told
 enum-told c = search needs
 
--- src/lib.rt:37:9
 returns : tie.Need-returns
-returns c = ?
+unfolding readId
+returns c = rw (← c .before .before .read-number .ensures, c .enum-told .given .1)
 
--- src/lib.rt:40:9
 returns-2 : tie.Need-returns-2
-returns-2 c = ?
+unfolding readId
+returns-2 c = rw (read (c .before)) (simp (lt-ltb _ _ (c .if1 .taken)))
 
--- src/lib.rt:43:9
 returns-3 : tie.Need-returns-3
-returns-3 c = ?
+unfolding readId
+returns-3 c = rw (read (c .before .before)) (simp (le-ltb _ _ (c .before .if1 .left), lt-ltb _ _ (c .if2 .taken)))
 
--- src/lib.rt:45:8
 byte-at-requires : tie.Need-byte-at-requires
 byte-at-requires c κs = search needs
 
--- src/lib.rt:46:28
 add-t8 : tie.Need-add-t8
-add-t8 c = ?
+add-t8 c = omega (arith, written-read _ _ _ (read (c .before .before .before .before)) .most)
 
--- src/lib.rt:46:9
 returns-4 : tie.Need-returns-4
-returns-4 c = ?
+unfolding readId
+returns-4 c =
+    let e = c .before .before in
+    rw (read (e .before .before), ← c .before .byte-at .ensures)
+    (simp (le-ltb _ _ (e .before .if1 .left), le-ltb _ _ (e .if2 .left), eq-eqb _ _ (c .if3 .taken)))
 
--- src/lib.rt:33:1
 returns-5 : tie.Need-returns-5
-returns-5 c = ?
+unfolding readId
+returns-5 c =
+    let e = c .before .before in
+    rw (read (e .before .before), ← c .before .byte-at .ensures)
+    (simp (le-ltb _ _ (e .before .if1 .left), le-ltb _ _ (e .if2 .left), ne-eqb _ _ (c .if3 .left)))
 
 pub read-id-spec : {M : Type 1} → statement M
 read-id-spec =

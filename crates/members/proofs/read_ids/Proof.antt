@@ -1,100 +1,123 @@
+-- The loop keeps `Ready`: an id with a comma makes it ready for the rest, and the last id, a bad one, or too many end the reading.
 use borrow.Author.Needs.{needs}
+use native.Mathlib.Omega.{arith}
+use Prim.Native.Nat.{ℕ, _≤_}
+use mathlib.Core.Path.{_≡_, refl, ap, sym, _∙_}
+use denote.Ref.{now}
+use lib.ListN.{length, drop}
+use Rattle.decimal.proofs.Order.{rest}
+use Rattle.members.specs.declared.Id.the-variants.{More, Last}
+use Rattle.members.specs.Members.{readId}
+use Rattle.members.proofs.One.{took-more, took-last}
+use Rattle.members.proofs.Reading.{Ready, begin, sum-fits, end-within, ready-more, ready-last, ready-bad, ready-out}
 use Rattle.members.proofs.read_ids.Statement.{statement}
 use Rattle.members.proofs.read_ids.Tie as tie
-use Rattle.members.proofs.read_ids.Reads as reads
-use Rattle.members.proofs.read_ids.Lts as lts
-use Rattle.members.proofs.read_id.Reads as read-id-reads
-use Rattle.members.proofs.single.Reads as single-reads
 
 abbrev Inv-loop : tie.InvT-loop
-Inv-loop s left₀ least₀ mask₀ at₀ left least mask at = ?
+Inv-loop s left₀ least₀ mask₀ at₀ left least mask at = Ready s left least mask at
 
 abbrev μ-loop : tie.MeasureT-loop
-μ-loop s left₀ least₀ mask₀ at₀ left least mask at = ?
+μ-loop s left₀ least₀ mask₀ at₀ left least mask at = left
 
--- src/lib.rt:59:5
+-- the id that was read, from the place on
+read : (c : tie.After-read-id Inv-loop μ-loop) →
+    let l = c .before .before .before .loop in
+    readId (drop (l .at) (now (c .before .before .before .before .before .args .s))) (l .least) ≡ c .read-id .result
+read c =
+    let l = c .before .before .before .loop in
+    ap (λ t. readId t (l .least)) (sym (rest (now (c .before .before .before .before .before .args .s)) (l .at))) ∙ sym (c .read-id .ensures)
+
+more : (c : tie.After-known-told Inv-loop μ-loop) →
+    let r = c .before .before .before in
+    let l = r .before .before .before .loop in
+    readId (drop (l .at) (now (r .before .before .before .before .before .args .s))) (l .least) ≡ More (c .before .v .given .0 .0) (c .before .v .given .0 .1 .0)
+more c = read (c .before .before .before) ∙ c .before .v .given .1
+
+last : (c : tie.After-known-told2 Inv-loop μ-loop) →
+    let r = c .before .before .before in
+    let l = r .before .before .before .loop in
+    readId (drop (l .at) (now (r .before .before .before .before .before .args .s))) (l .least) ≡ Last (c .before .v2 .given .0 .0) (c .before .v2 .given .0 .1 .0)
+last c = read (c .before .before .before) ∙ c .before .v2 .given .1
+
 loop-holds : tie.Need-loop-holds Inv-loop μ-loop
-loop-holds c = ?
+loop-holds c = begin _
 
--- src/lib.rt:60:23
 sub-read-id : tie.Need-sub-read-id Inv-loop μ-loop
-sub-read-id c = ?
+sub-read-id c = omega (arith, c .before .loop .inv .inside)
 
--- src/lib.rt:60:23
 part-read-id-start : tie.Need-part-read-id-start Inv-loop μ-loop
-part-read-id-start c = ?
+part-read-id-start c = search needs
 
--- src/lib.rt:60:23
 part-read-id-end : tie.Need-part-read-id-end Inv-loop μ-loop
-part-read-id-end c = ?
+part-read-id-end c = search needs
 
--- src/lib.rt:60:15
 read-id-requires : tie.Need-read-id-requires Inv-loop μ-loop
-read-id-requires c κs = ?
+read-id-requires c κs = search needs
 
--- src/lib.rt:61:22
 enum-known-v : tie.Need-enum-known-v Inv-loop μ-loop
-enum-known-v c = ?
+enum-known-v c = search needs
 
--- src/lib.rt:62:25
 add-least : tie.Need-add-least Inv-loop μ-loop
-add-least c = ?
+add-least c = omega (arith, took-more _ _ _ _ (more c) .high)
 
--- src/lib.rt:63:31
 single-requires : tie.Need-single-requires Inv-loop μ-loop
-single-requires c κs = ?
+single-requires c κs = omega (arith, took-more _ _ _ _ (more c) .high)
 
--- src/lib.rt:63:24
 add-mask : tie.Need-add-mask Inv-loop μ-loop
-add-mask c = ?
+add-mask c =
+    let l = c .before .before .before .before .before .before .before .loop in
+    let o = took-more _ _ _ _ (more (c .before)) in
+    omega (arith, sum-fits _ _ _ _ _ (l .inv) _ (o .low) (o .high), c .single .ensures)
 
--- src/lib.rt:64:22
 add-at : tie.Need-add-at Inv-loop μ-loop
-add-at c = ?
+add-at c =
+    let l = c .before .before .before .before .before .before .before .loop in
+    omega (arith, end-within _ _ _ _ _ (l .inv) _ _ _ (took-more _ _ _ _ (more (c .before))))
 
--- src/lib.rt:66:22
 enum-known-v-2 : tie.Need-enum-known-v-2 Inv-loop μ-loop
-enum-known-v-2 c = ?
+enum-known-v-2 c = search needs
 
--- src/lib.rt:67:44
 single-requires-2 : tie.Need-single-requires-2 Inv-loop μ-loop
-single-requires-2 c κs = ?
+single-requires-2 c κs = omega (arith, took-last _ _ _ _ (last c) .high)
 
--- src/lib.rt:67:37
 add-t18 : tie.Need-add-t18 Inv-loop μ-loop
-add-t18 c = ?
+add-t18 c =
+    let l = c .before .before .before .before .before .before .before .loop in
+    let o = took-last _ _ _ _ (last (c .before)) in
+    omega (arith, sum-fits _ _ _ _ _ (l .inv) _ (o .low) (o .high), c .single2 .ensures)
 
--- src/lib.rt:67:55
 add-t19 : tie.Need-add-t19 Inv-loop μ-loop
-add-t19 c = ?
+add-t19 c =
+    let l = c .before .before .before .before .before .before .before .loop in
+    omega (arith, end-within _ _ _ _ _ (l .inv) _ _ _ (took-last _ _ _ _ (last (c .before))))
 
--- src/lib.rt:67:17
 returns : tie.Need-returns Inv-loop μ-loop
-returns c = ?
+returns c =
+    let t = c .before .before .before .before .before .before in
+    rw (c .single2 .ensures) (sym (ready-last _ _ _ _ _ (t .before .loop .inv) _ _ (t .loop-test .taken) (last (c .before))))
 
--- src/lib.rt:70:17
 enum-told : tie.Need-enum-told Inv-loop μ-loop
-enum-told c = ?
+enum-told c = search needs
 
--- src/lib.rt:70:17
 returns-2 : tie.Need-returns-2 Inv-loop μ-loop
-returns-2 c = ?
+returns-2 c =
+    let r = c .before .before in
+    let t = r .before .before in
+    sym (ready-bad _ _ _ _ _ (t .before .loop .inv) (t .loop-test .taken) (read r ∙ c .enum-told .given .1))
 
--- src/lib.rt:73:16
 sub-left : tie.Need-sub-left Inv-loop μ-loop
-sub-left c = ?
+sub-left c = search needs
 
--- src/lib.rt:59:5
 loop-less : tie.Need-loop-less Inv-loop μ-loop
-loop-less c = ?
+loop-less c = search needs
 
--- src/lib.rt:59:5
 loop-again : tie.Need-loop-again Inv-loop μ-loop
-loop-again c = ?
+loop-again c =
+    let t = c .before .before .before .before .before .before in
+    rw (c .single .ensures) (ready-more _ _ _ _ _ (t .before .loop .inv) _ _ (t .loop-test .taken) (more (c .before)))
 
--- src/lib.rt:52:1
 returns-3 : tie.Need-returns-3 Inv-loop μ-loop
-returns-3 c = ?
+returns-3 c = let z : c .before .loop .left ≡ 0 = omega arith in sym (ready-out _ _ _ _ _ (c .before .loop .inv) z)
 
 pub read-ids-spec : {M : Type 1} → statement M
 read-ids-spec =

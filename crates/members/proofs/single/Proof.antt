@@ -1,16 +1,15 @@
+-- A 1 shifted by less than 64 loses nothing.
 use borrow.Author.Needs.{needs}
+use native.Mathlib.Nat.{one-mul, mod-eq-of-lt}
+use lib.Pow.{pow-lt}
 use Rattle.members.proofs.single.Statement.{statement}
 use Rattle.members.proofs.single.Tie as tie
-use Rattle.members.proofs.single.Reads as reads
-use Rattle.members.proofs.single.Lts as lts
 
--- src/lib.rt:29:5
 shl-result : tie.Need-shl-result
 shl-result c = search needs
 
--- src/lib.rt:25:1
 returns : tie.Need-returns
-returns c = ?
+returns c = simp one-mul (mod-eq-of-lt (pow-lt (c .pre)))
 
 pub single-spec : {M : Type 1} → statement M
 single-spec = tie.close (tie.spec shl-result returns)
