@@ -69,3 +69,29 @@ front-byte w x d h =
     let b : length w + 1 ≤ length d = omega arith in
     let g : length w < length (atFront w d) = omega (arith, length-front w d a) in
     set-place (length w) x (atFront w d) g ∙ front-place w (x ∷ []) d b
+
+-- of the bytes that were d, u is at the front by now, and `at` is the place behind it
+pub record Written (u d o : List ℕ) (at : ℕ) : Type 0 where
+  pub place : at ≡ length u
+  pub bytes : o ≡ atFront u d
+
+-- what is left is lent to a writer of v
+module _ (u d o : List ℕ) (at : ℕ) (h : Written u d o at) (v : List ℕ) (fits : length u + length v ≤ length d) where
+  fits-left : at + length v ≤ length o
+  fits-left =
+      let a : length u ≤ length d = omega arith in
+      omega (arith, h .place, ap length (h .bytes), length-front u d a)
+
+  pub within : at ≤ length o
+  within = omega (arith, fits-left)
+
+  pub room : length v ≤ length (take (length o - at) (drop at o))
+  room = rw (rest o at) (omega (arith, fits-left, length-drop at o))
+
+  pub next : (n : ℕ) (w : List ℕ) → n ≡ length v → w ≡ atFront v (take (length o - at) (drop at o))
+      → Written (u ++ v) d (putMid at (length o - at) o w) (at + n)
+  next n w e f =
+      record {
+        place = omega (arith, h .place, e, length-append u v);
+        bytes = rw f (lent at v o fits-left ∙ rw (h .place, h .bytes) (front-place u v d fits));
+      }

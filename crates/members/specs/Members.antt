@@ -50,3 +50,8 @@ readIds (suc f) t least = onId (readId t least) (λ v k. Got (2 ^ v) k) (λ v k.
 -- the member list at the start of s: the set, and how many bytes it takes
 unfoldable pub readMembers : List ℕ → Members
 readMembers s = cond (eqb (getD s 0 0) 45) (Got 0 1) (readIds 64 s 0)
+
+-- by cases on a member list that was read
+abbrev pub onMembers : {A : Type 0} → Members → A → (ℕ → ℕ → A) → A
+onMembers Bad b f = b
+onMembers (Got m k) b f = f m k

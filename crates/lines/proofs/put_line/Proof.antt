@@ -1,0 +1,147 @@
+-- Each field is written right behind those before it, so that in the end the three stand at the front one after the other.
+use borrow.Author.Needs.{needs}
+use native.Mathlib.Omega.{arith}
+use Prim.Native.Nat.{_+_, _-_, _≤_}
+use mathlib.Core.Path.{_≡_, ap, sym, _∙_}
+use mathlib.Core.List.{_++_, append-assoc}
+use denote.Ref.{now}
+use lib.ListN.{length, length-append}
+use borrow.Rule.Slice.PartMut.{putMid}
+use Rattle.decimal.specs.Bytes.{atFront}
+use Rattle.decimal.proofs.Place.{Written, within, room, next}
+use Rattle.lines.specs.Lines.{fieldText, lastText, lineText}
+use Rattle.lines.proofs.Texts.{length-fields}
+use Rattle.lines.proofs.put_line.Statement.{statement}
+use Rattle.lines.proofs.put_line.Tie as tie
+
+-- the three fields and their room
+level : (c : tie.Start) → length (fieldText (c .args .level)) ≤ length (now (c .args .out))
+level c = omega (arith, c .pre, length-fields (c .args .level) (c .args .threshold) (c .args .members))
+
+threshold : (c : tie.Start) → length (fieldText (c .args .level)) + length (fieldText (c .args .threshold)) ≤ length (now (c .args .out))
+threshold c = omega (arith, c .pre, length-fields (c .args .level) (c .args .threshold) (c .args .members))
+
+members : (c : tie.Start) →
+    let a = c .args in
+    length (fieldText (a .level) ++ fieldText (a .threshold)) + length (lastText (a .members)) ≤ length (now (a .out))
+members c =
+    let a = c .args in
+    omega (arith, c .pre, length-fields (a .level) (a .threshold) (a .members), length-append (fieldText (a .level)) (fieldText (a .threshold)))
+
+first : (c : tie.After-put-field) →
+    let a = c .before .before .before .args in
+    Written (fieldText (a .level)) (now (a .out)) (c .put-field .last .0) (c .put-field .result)
+first c = record { place = c .put-field .ensures .0; bytes = c .put-field .ensures .1 }
+
+second : (c : tie.After-put-field2) →
+    let f = c .before .before .before .before in
+    let a = f .before .before .before .args in
+    let at = f .put-field .result in
+    let o = f .put-field .last .0 in
+    Written (fieldText (a .level) ++ fieldText (a .threshold)) (now (a .out)) (putMid at (length o - at) o (c .put-field2 .last .0)) (at + c .put-field2 .result)
+second c =
+    let f = c .before .before .before .before in
+    let s = f .before .before .before in
+    next _ _ _ _ (first f) (fieldText (s .args .threshold)) (threshold s) _ _ (c .put-field2 .ensures .0) (c .put-field2 .ensures .1)
+
+third : (c : tie.After-put-last) →
+    let g = c .before .before .before .before in
+    let f = g .before .before .before .before in
+    let a = f .before .before .before .args in
+    let at₁ = f .put-field .result in
+    let o₁ = f .put-field .last .0 in
+    let at = at₁ + g .put-field2 .result in
+    let o = putMid at₁ (length o₁ - at₁) o₁ (g .put-field2 .last .0) in
+    Written ((fieldText (a .level) ++ fieldText (a .threshold)) ++ lastText (a .members)) (now (a .out)) (putMid at (length o - at) o (c .put-last .last .0)) (at + c .put-last .result)
+third c =
+    let g = c .before .before .before .before in
+    let s = g .before .before .before .before .before .before .before in
+    next _ _ _ _ (second g) (lastText (s .args .members)) (members s) _ _ (c .put-last .ensures .0) (c .put-last .ensures .1)
+
+put-field-requires : tie.Need-put-field-requires
+put-field-requires c κs = level (c .before .before)
+
+sub-put-field : tie.Need-sub-put-field
+sub-put-field c =
+    let f = c .before .before in
+    let s = f .before .before .before in
+    within _ _ _ _ (first f) (fieldText (s .args .threshold)) (threshold s)
+
+part-put-field-start : tie.Need-part-put-field-start
+part-put-field-start c =
+    let f = c .before .before in
+    let s = f .before .before .before in
+    within _ _ _ _ (first f) (fieldText (s .args .threshold)) (threshold s)
+
+part-put-field-end : tie.Need-part-put-field-end
+part-put-field-end c = search needs
+
+put-field-requires-2 : tie.Need-put-field-requires-2
+put-field-requires-2 c κs =
+    let f = c .before .before .before in
+    let s = f .before .before .before in
+    room _ _ _ _ (first f) (fieldText (s .args .threshold)) (threshold s)
+
+add-b : tie.Need-add-b
+add-b c =
+    let g = c .before .before in
+    let s = g .before .before .before .before .before .before .before in
+    let a = s .args in
+    omega (arith, second g .place, threshold s, length-append (fieldText (a .level)) (fieldText (a .threshold)))
+
+sub-put-last : tie.Need-sub-put-last
+sub-put-last c =
+    let g = c .before .before in
+    let s = g .before .before .before .before .before .before .before in
+    within _ _ _ _ (second g) (lastText (s .args .members)) (members s)
+
+part-put-last-start : tie.Need-part-put-last-start
+part-put-last-start c =
+    let g = c .before .before in
+    let s = g .before .before .before .before .before .before .before in
+    within _ _ _ _ (second g) (lastText (s .args .members)) (members s)
+
+part-put-last-end : tie.Need-part-put-last-end
+part-put-last-end c = search needs
+
+put-last-requires : tie.Need-put-last-requires
+put-last-requires c κs =
+    let g = c .before .before .before in
+    let s = g .before .before .before .before .before .before .before in
+    room _ _ _ _ (second g) (lastText (s .args .members)) (members s)
+
+add-result : tie.Need-add-result
+add-result c =
+    let p = c .before .before in
+    let s = p .before .before .before .before .before .before .before .before .before .before .before in
+    let a = s .args in
+    omega (arith, third p .place, members s, length-append (fieldText (a .level) ++ fieldText (a .threshold)) (lastText (a .members)))
+
+same-length : tie.Need-same-length
+same-length c = search needs
+
+returns : tie.Need-returns
+unfolding lineText
+returns c =
+    let p = c .before .before in
+    let a = p .before .before .before .before .before .before .before .before .before .before .before .args in
+    let e = append-assoc (fieldText (a .level)) (fieldText (a .threshold)) (lastText (a .members)) in
+    (third p .place ∙ ap length e, third p .bytes ∙ ap (λ w. atFront w (now (a .out))) e)
+
+pub put-line-spec : {M : Type 1} → statement M
+put-line-spec =
+    tie.close
+    (tie.spec
+    put-field-requires
+    sub-put-field
+    part-put-field-start
+    part-put-field-end
+    put-field-requires-2
+    add-b
+    sub-put-last
+    part-put-last-start
+    part-put-last-end
+    put-last-requires
+    add-result
+    same-length
+    returns)

@@ -1,0 +1,43 @@
+-- The lines of a trust sheet (document 01, "The trust sheet"): level, threshold and members, parted by one tab and ended by LF.
+use Prim.Native.Nat.{ℕ, _+_}
+use mathlib.Core.Bool.{cond}
+use mathlib.Core.List.{List, [], _∷_, _++_}
+use lib.Dec.{ltb, eqb}
+use lib.ListN.{getD, drop}
+use Rattle.decimal.specs.Decimal.{numeral, readNumber, onNumber}
+use Rattle.decimal.specs.declared.Number.{Number}
+use Rattle.decimal.specs.declared.Number.the-variants.{Got, Bad}
+use Rattle.members.specs.Members.{memberText, readMembers, onMembers}
+use Rattle.members.specs.declared.Members.{Members}
+use Rattle.members.specs.declared.Members.the-variants.{Got as GotMembers, Bad as BadMembers}
+use Rattle.lines.specs.declared.Line.{Line}
+use Rattle.lines.specs.declared.Line.the-variants.{Good, Bad as BadLine}
+
+-- a number and the tab behind it
+unfoldable pub fieldText : ℕ → List ℕ
+fieldText n = numeral n ++ 9 ∷ []
+
+-- a member list and the line's end
+unfoldable pub lastText : ℕ → List ℕ
+lastText m = memberText m ++ 10 ∷ []
+
+-- the text of a record
+unfoldable pub lineText : ℕ → ℕ → ℕ → List ℕ
+lineText level threshold members = fieldText level ++ (fieldText threshold ++ lastText members)
+
+-- the number and the tab at the start of s, and how many bytes they take
+unfoldable pub readField : List ℕ → Number
+readField s = onNumber (readNumber s) Bad (λ v k. cond (eqb (getD s k 0) 9) (Got v (k + 1)) Bad)
+
+-- the member list and the line's end at the start of s, and how many bytes they take
+unfoldable pub readLast : List ℕ → Members
+readLast s = onMembers (readMembers s) BadMembers (λ m k. cond (eqb (getD s k 0) 10) (GotMembers m (k + 1)) BadMembers)
+
+-- the line at the start of s, and how many bytes it takes
+unfoldable pub readLine : List ℕ → Line
+readLine s =
+    onNumber (readField s) BadLine
+    (λ level a.
+    cond (ltb 3 level) BadLine
+    (onNumber (readField (drop a s)) BadLine
+    (λ threshold b. onMembers (readLast (drop (a + b) s)) BadLine (λ members k. Good level threshold members (a + b + k)))))

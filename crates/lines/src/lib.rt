@@ -1,0 +1,118 @@
+// Lines of a trust sheet: level, tab, threshold, tab, members, LF (document 01, "The trust sheet").
+ghost use mathlib.Core.Path.{_≡_};
+ghost use Prim.Native.Nat.{_≤_};
+ghost use lib.ListN.{length, drop};
+ghost use Rattle.decimal.specs.Bytes.{atFront};
+ghost use Rattle.lines.specs.Lines.{fieldText, lastText, lineText, readField, readLast, readLine};
+use decimal::Number;
+use members::Members;
+
+// A record and how many bytes its line took.
+pub enum Line {
+    Good {
+        level: u64,
+        threshold: u64,
+        members: u64,
+        used: usize,
+    },
+    Bad,
+}
+
+// The number at the start of s, which a tab must follow.
+pub fn read_field(s: &[u8]) -> Number
+    ensures { λ r. ⌜ r ≡ readField (now (s .entry)) ⌝ }
+{
+    let Number::Got(v, k) = decimal::read_number(s) else {
+        return Number::Bad;
+    };
+    if decimal::byte_at(s, k) == 9 {
+        return Number::Got(v, k + 1);
+    }
+    Number::Bad
+}
+
+// The member list at the start of s, which the line's end must follow.
+pub fn read_last(s: &[u8]) -> Members
+    ensures { λ r. ⌜ r ≡ readLast (now (s .entry)) ⌝ }
+{
+    let Members::Got(m, k) = members::read_members(s) else {
+        return Members::Bad;
+    };
+    if decimal::byte_at(s, k) == 10 {
+        return Members::Got(m, k + 1);
+    }
+    Members::Bad
+}
+
+// The line at the start of s. Each field is read from where the one before ended.
+pub fn read_line(s: &[u8]) -> Line
+    ensures { λ r. ⌜ r ≡ readLine (now (s .entry)) ⌝ }
+{
+    let Number::Got(level, a) = read_field(s) else {
+        return Line::Bad;
+    };
+    if 3 < level {
+        return Line::Bad;
+    }
+    let Number::Got(threshold, b) = read_field(&s[a..]) else {
+        return Line::Bad;
+    };
+    let at = a + b;
+    let Members::Got(members, k) = read_last(&s[at..]) else {
+        return Line::Bad;
+    };
+    Line::Good {
+        level,
+        threshold,
+        members,
+        used: at + k,
+    }
+}
+
+// The line that starts where the one before ended.
+pub fn line_at(s: &[u8], at: usize) -> Line
+    requires { ⌜ at ≤ length (now s) ⌝ }
+    ensures { λ r. ⌜ r ≡ readLine (drop at (now (s .entry))) ⌝ }
+{
+    read_line(&s[at..])
+}
+
+// How many bytes the line of a record takes: its fields, two tabs and the line's end.
+pub fn line_len(level: u64, threshold: u64, members: u64) -> usize
+    ensures { λ r. ⌜ r ≡ length (lineText level threshold members) ⌝ }
+{
+    decimal::number_len(level) + decimal::number_len(threshold) + members::members_len(members) + 3
+}
+
+// Writes n and a tab at the front of out, and answers how many bytes that took.
+pub fn put_field(out: &mut [u8], n: u64) -> usize
+    requires { ⌜ length (fieldText n) ≤ length (now out) ⌝ }
+    ensures { λ r. ⌜ r ≡ length (fieldText n) ⌝ }
+    ensures { λ _. ⌜ now (out .exit) ≡ atFront (fieldText n) (now (out .entry)) ⌝ }
+{
+    let k = decimal::put_number(out, n);
+    out[k] = 9;
+    k + 1
+}
+
+// Writes the list of m and the line's end at the front of out, and answers how many bytes that took.
+pub fn put_last(out: &mut [u8], m: u64) -> usize
+    requires { ⌜ length (lastText m) ≤ length (now out) ⌝ }
+    ensures { λ r. ⌜ r ≡ length (lastText m) ⌝ }
+    ensures { λ _. ⌜ now (out .exit) ≡ atFront (lastText m) (now (out .entry)) ⌝ }
+{
+    let k = members::put_members(out, m);
+    out[k] = 10;
+    k + 1
+}
+
+// Writes the line of a record at the front of out, each field into what is left of it, and answers how many bytes that took.
+pub fn put_line(out: &mut [u8], level: u64, threshold: u64, members: u64) -> usize
+    requires { ⌜ length (lineText level threshold members) ≤ length (now out) ⌝ }
+    ensures { λ r. ⌜ r ≡ length (lineText level threshold members) ⌝ }
+    ensures { λ _. ⌜ now (out .exit) ≡ atFront (lineText level threshold members) (now (out .entry)) ⌝ }
+{
+    let a = put_field(out, level);
+    let b = a + put_field(&mut out[a..], threshold);
+    b + put_last(&mut out[b..], members)
+}
