@@ -3,12 +3,12 @@ use Prim.Native.Nat.{ℕ, suc, _+_, _-_, _≤_, _<_}
 use native.Mathlib.Omega.{arith}
 use native.Mathlib.Numerals.{add-one}
 use native.Mathlib.Nat.{add-assoc, zero-add}
-use mathlib.Core.Path.{_≡_, refl, ap, sym, _∙_}
+use mathlib.Core.Path.{_≡_, ap, sym, _∙_}
 use mathlib.Core.List.{List, [], _∷_, _++_, append-assoc, append-nil}
 use lib.ListN.{length, take, drop, set, length-append, length-take, length-drop, drop-of-length-le}
-use lib.Seq.{drop-drop, set-split, take-at, drop-at, length-take-le, take-append-add, drop-append-add}
-use borrow.Rule.Slice.PartMut.{putMid, midOf}
-use Rattle.decimal.specs.Bytes.{atFront}
+use lib.Seq.{drop-drop, set-split, take-at, drop-at, length-take-le}
+use borrow.Rule.Slice.PartMut.{putMid}
+use Rattle.decimal.specs.Bytes.{atFront, Written}
 use Rattle.decimal.proofs.Order.{rest}
 
 -- w at the place `at` of d, and the rest of d as before
@@ -70,17 +70,12 @@ front-byte w x d h =
     let g : length w < length (atFront w d) = omega (arith, length-front w d a) in
     set-place (length w) x (atFront w d) g ∙ front-place w (x ∷ []) d b
 
--- of the bytes that were d, u is at the front by now, and `at` is the place behind it
-pub record Written (u d o : List ℕ) (at : ℕ) : Type 0 where
-  pub place : at ≡ length u
-  pub bytes : o ≡ atFront u d
-
--- what is left is lent to a writer of v
+-- behind u, which was written into d, what is left is lent to a writer of v
 module _ (u d o : List ℕ) (at : ℕ) (h : Written u d o at) (v : List ℕ) (fits : length u + length v ≤ length d) where
   fits-left : at + length v ≤ length o
   fits-left =
       let a : length u ≤ length d = omega arith in
-      omega (arith, h .place, ap length (h .bytes), length-front u d a)
+      omega (arith, h .count, ap length (h .bytes), length-front u d a)
 
   pub within : at ≤ length o
   within = omega (arith, fits-left)
@@ -88,10 +83,9 @@ module _ (u d o : List ℕ) (at : ℕ) (h : Written u d o at) (v : List ℕ) (fi
   pub room : length v ≤ length (take (length o - at) (drop at o))
   room = rw (rest o at) (omega (arith, fits-left, length-drop at o))
 
-  pub next : (n : ℕ) (w : List ℕ) → n ≡ length v → w ≡ atFront v (take (length o - at) (drop at o))
-      → Written (u ++ v) d (putMid at (length o - at) o w) (at + n)
-  next n w e f =
+  pub next : (n : ℕ) (w : List ℕ) → Written v (take (length o - at) (drop at o)) w n → Written (u ++ v) d (putMid at (length o - at) o w) (at + n)
+  next n w e =
       record {
-        place = omega (arith, h .place, e, length-append u v);
-        bytes = rw f (lent at v o fits-left ∙ rw (h .place, h .bytes) (front-place u v d fits));
+        count = omega (arith, h .count, e .count, length-append u v);
+        bytes = rw (e .bytes) (lent at v o fits-left ∙ rw (h .count, h .bytes) (front-place u v d fits));
       }

@@ -1,6 +1,6 @@
 -- The numeral that is written is read back, and what is read is the numeral. Both go by the first three digits: the text of a number has
 -- one, two or three of them, and no other three bytes give the same number.
-use Prim.Native.Nat.{ℕ, zero, suc, _+_, _-_, _*_, _/_, _%_, _≤_, _<_, min}
+use Prim.Native.Nat.{ℕ, _+_, _*_, _/_, _%_, _≤_, _<_}
 use native.Mathlib.Omega.{arith}
 use native.Mathlib.Nat.{add-sub-cancel-left}
 use mathlib.Core.Path.{_≡_, refl, ap, sym, _∙_}
@@ -9,7 +9,6 @@ use mathlib.Core.List.{List, [], _∷_, _++_}
 use borrow.Author.Tests.{lt-ltb, le-ltb, le-leb, lt-leb, eq-eqb, ne-eqb}
 use lib.ListN.{length, getD, take}
 use Rattle.decimal.specs.Decimal.{numeral, digitOf, digitAt, numberOf, readNumber}
-use Rattle.decimal.specs.declared.Number.{Number}
 use Rattle.decimal.specs.declared.Number.the-variants.{Got, Bad}
 use Rattle.decimal.proofs.Order.{lt-or-le}
 use Rattle.decimal.proofs.Numeral.{numeral-digit, numeral-2, numeral-3}

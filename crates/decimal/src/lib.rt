@@ -2,7 +2,7 @@
 ghost use mathlib.Core.Path.{_≡_};
 ghost use Prim.Native.Nat.{_≤_};
 ghost use lib.ListN.{length, getD};
-ghost use Rattle.decimal.specs.Bytes.{atFront};
+ghost use Rattle.decimal.specs.Bytes.{Written};
 ghost use Rattle.decimal.specs.Decimal.{numeral, digitAt, readNumber};
 
 // A number and how many bytes it took.
@@ -19,7 +19,7 @@ pub fn byte_at(s: &[u8], i: usize) -> u8
 }
 
 // The digit at i, or 10 where there is none.
-pub fn digit_at(s: &[u8], i: usize) -> u64
+fn digit_at(s: &[u8], i: usize) -> u64
     ensures { λ r. ⌜ r ≡ digitAt (now (s .entry)) i ⌝ }
 {
     let b = byte_at(s, i);
@@ -73,8 +73,7 @@ pub fn number_len(n: u64) -> usize
 // Writes n at the front of out, from its last digit to its first, and answers how many bytes that took.
 pub fn put_number(out: &mut [u8], n: u64) -> usize
     requires { ⌜ length (numeral n) ≤ length (now out) ⌝ }
-    ensures { λ r. ⌜ r ≡ length (numeral n) ⌝ }
-    ensures { λ _. ⌜ now (out .exit) ≡ atFront (numeral n) (now (out .entry)) ⌝ }
+    ensures { λ r. ⌜ Written (numeral n) (now (out .entry)) (now (out .exit)) r ⌝ }
 {
     let len = number_len(n);
     let mut m = n;

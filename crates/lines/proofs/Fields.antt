@@ -1,9 +1,8 @@
 -- A field is read back as it is written and the other way round: the byte behind it ends the number or the list, and must be the one asked.
-use Prim.Native.Nat.{ℕ, suc, _+_, _^_, _≤_, _<_}
+use Prim.Native.Nat.{ℕ, _+_, _^_, _≤_, _<_}
 use native.Mathlib.Omega.{arith}
 use native.Mathlib.Numerals.{add-one}
-use native.Mathlib.Nat.{add-zero}
-use mathlib.Core.Path.{_≡_, refl, ap, sym, _∙_}
+use mathlib.Core.Path.{_≡_, refl}
 use mathlib.Core.Bool.{cond}
 use mathlib.Core.Logic.{⊎-elim}
 use mathlib.Core.List.{List, [], _∷_, _++_, append-assoc}
@@ -21,7 +20,6 @@ use Rattle.members.specs.declared.Members.{Members}
 use Rattle.members.specs.declared.Members.the-variants.{Got as GotMembers, Bad as BadMembers}
 use Rattle.members.proofs.Round as members
 use Rattle.lines.specs.Lines.{fieldText, lastText, readField, readLast}
-use Rattle.lines.proofs.Texts.{length-field, length-last}
 
 tab-stops : (t : List ℕ) → digitAt (9 ∷ t) 0 ≡ 10
 unfolding digitAt digitOf

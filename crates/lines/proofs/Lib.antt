@@ -1,3 +1,4 @@
 pub mod Texts
 pub mod Fields
 pub mod Round
+pub mod Examples

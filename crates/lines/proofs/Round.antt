@@ -2,10 +2,10 @@
 -- of the record.
 use Prim.Native.Nat.{ℕ, _+_, _^_, _≤_, _<_}
 use native.Mathlib.Omega.{arith}
-use mathlib.Core.Path.{_≡_, refl, ap, sym, _∙_}
+use mathlib.Core.Path.{_≡_, refl, ap, sym}
 use mathlib.Core.Bool.{cond}
 use mathlib.Core.Logic.{⊎-elim}
-use mathlib.Core.List.{List, [], _∷_, _++_, append-assoc}
+use mathlib.Core.List.{List, _++_, append-assoc}
 use borrow.Author.Tests.{lt-ltb, le-ltb}
 use lib.Dec.{ltb}
 use lib.ListN.{length, take, drop, length-drop}
@@ -17,7 +17,6 @@ use Rattle.decimal.proofs.Order.{lt-or-le}
 use Rattle.members.specs.Members.{onMembers}
 use Rattle.members.specs.declared.Members.{Members}
 use Rattle.members.specs.declared.Members.the-variants.{Got as GotMembers, Bad as BadMembers}
-use Rattle.lines.specs.declared.Line.{Line}
 use Rattle.lines.specs.declared.Line.the-variants.{Good, Bad as BadLine}
 use Rattle.lines.specs.Lines.{fieldText, lastText, lineText, readField, readLast, readLine}
 use Rattle.lines.proofs.Texts.{length-fields}

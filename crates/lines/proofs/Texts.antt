@@ -1,8 +1,8 @@
 -- How long a line is: each field and one byte behind it. So no line of a sheet is longer than 188 bytes.
-use Prim.Native.Nat.{ℕ, _+_, _≤_, _<_, _^_}
+use Prim.Native.Nat.{ℕ, _+_, _≤_}
 use native.Mathlib.Omega.{arith}
-use mathlib.Core.Path.{_≡_, sym, _∙_}
-use mathlib.Core.List.{List, [], _∷_, _++_}
+use mathlib.Core.Path.{_≡_}
+use mathlib.Core.List.{[], _∷_, _++_}
 use lib.ListN.{length, length-append}
 use Rattle.decimal.specs.Decimal.{numeral}
 use Rattle.decimal.proofs.Numeral.{length-digit, length-byte}

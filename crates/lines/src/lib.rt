@@ -2,7 +2,7 @@
 ghost use mathlib.Core.Path.{_≡_};
 ghost use Prim.Native.Nat.{_≤_};
 ghost use lib.ListN.{length, drop};
-ghost use Rattle.decimal.specs.Bytes.{atFront};
+ghost use Rattle.decimal.specs.Bytes.{Written};
 ghost use Rattle.lines.specs.Lines.{fieldText, lastText, lineText, readField, readLast, readLine};
 use decimal::Number;
 use members::Members;
@@ -87,8 +87,7 @@ pub fn line_len(level: u64, threshold: u64, members: u64) -> usize
 // Writes n and a tab at the front of out, and answers how many bytes that took.
 pub fn put_field(out: &mut [u8], n: u64) -> usize
     requires { ⌜ length (fieldText n) ≤ length (now out) ⌝ }
-    ensures { λ r. ⌜ r ≡ length (fieldText n) ⌝ }
-    ensures { λ _. ⌜ now (out .exit) ≡ atFront (fieldText n) (now (out .entry)) ⌝ }
+    ensures { λ r. ⌜ Written (fieldText n) (now (out .entry)) (now (out .exit)) r ⌝ }
 {
     let k = decimal::put_number(out, n);
     out[k] = 9;
@@ -98,8 +97,7 @@ pub fn put_field(out: &mut [u8], n: u64) -> usize
 // Writes the list of m and the line's end at the front of out, and answers how many bytes that took.
 pub fn put_last(out: &mut [u8], m: u64) -> usize
     requires { ⌜ length (lastText m) ≤ length (now out) ⌝ }
-    ensures { λ r. ⌜ r ≡ length (lastText m) ⌝ }
-    ensures { λ _. ⌜ now (out .exit) ≡ atFront (lastText m) (now (out .entry)) ⌝ }
+    ensures { λ r. ⌜ Written (lastText m) (now (out .entry)) (now (out .exit)) r ⌝ }
 {
     let k = members::put_members(out, m);
     out[k] = 10;
@@ -109,8 +107,7 @@ pub fn put_last(out: &mut [u8], m: u64) -> usize
 // Writes the line of a record at the front of out, each field into what is left of it, and answers how many bytes that took.
 pub fn put_line(out: &mut [u8], level: u64, threshold: u64, members: u64) -> usize
     requires { ⌜ length (lineText level threshold members) ≤ length (now out) ⌝ }
-    ensures { λ r. ⌜ r ≡ length (lineText level threshold members) ⌝ }
-    ensures { λ _. ⌜ now (out .exit) ≡ atFront (lineText level threshold members) (now (out .entry)) ⌝ }
+    ensures { λ r. ⌜ Written (lineText level threshold members) (now (out .entry)) (now (out .exit)) r ⌝ }
 {
     let a = put_field(out, level);
     let b = a + put_field(&mut out[a..], threshold);

@@ -1,6 +1,6 @@
 -- A set below 2^64 and the rising list of its nodes say the same: the list's powers of two add up to the set, and the nodes of such a sum
 -- are the list again. Both go bit by bit, by halving.
-use Prim.Native.Nat.{ℕ, zero, suc, _+_, _-_, _*_, _/_, _%_, _^_, _≤_, _<_}
+use Prim.Native.Nat.{ℕ, zero, suc, _+_, _*_, _/_, _%_, _^_, _≤_, _<_}
 use native.Mathlib.Omega.{arith}
 use native.Mathlib.Nat.{pow-succ', mul-assoc, mul-add, mul-one, mul-zero, mul-comm, one-mul}
 use native.Mathlib.Numerals.{add-one}

@@ -9,12 +9,11 @@ use mathlib.Core.List.{List}
 use lib.ListN.{length, drop, length-drop}
 use lib.Seq.{drop-drop}
 use lib.Pow.{pow-mono}
-use Rattle.members.specs.declared.Id.{Id}
 use Rattle.members.specs.declared.Id.the-variants.{More, Last, Bad as BadId}
 use Rattle.members.specs.declared.Members.{Members}
 use Rattle.members.specs.declared.Members.the-variants.{Got, Bad}
 use Rattle.members.specs.Members.{readId, onId, join, readIds}
-use Rattle.members.proofs.One.{Took, took-more, took-last}
+use Rattle.members.proofs.One.{Took, took-more}
 
 -- up to the place `at` the ids of `mask` were read, and at most `left` more may follow
 pub record Ready (s : List ℕ) (left least mask at : ℕ) : Type 0 where

@@ -1,6 +1,6 @@
 -- The text of a set is read back as the set, and what is read is the text of a set: a lone hyphen by itself, and any other list by its ids,
 -- which rise and are the nodes of their own sum.
-use Prim.Native.Nat.{ℕ, zero, suc, _+_, _^_, _≤_, _<_}
+use Prim.Native.Nat.{ℕ, _^_, _≤_, _<_}
 use native.Mathlib.Omega.{arith}
 use native.Mathlib.Nat.{one-mul}
 use mathlib.Core.Path.{_≡_, refl, ap, sym, _∙_}
@@ -11,7 +11,6 @@ use lib.ListN.{length, getD, take}
 use Rattle.decimal.specs.Decimal.{numeral, digitAt}
 use Rattle.decimal.proofs.Order.{same-or-not}
 use Rattle.decimal.proofs.Numeral.{numeral-first}
-use Rattle.members.specs.declared.Members.{Members}
 use Rattle.members.specs.declared.Members.the-variants.{Got, Bad}
 use Rattle.members.specs.Members.{nodesFrom, withCommas, memberText, readIds, readMembers}
 use Rattle.members.proofs.Nodes.{maskOf, nodes-some, nodes-few, nodes-rise, mask-nodes, nodes-mask, mask-some}

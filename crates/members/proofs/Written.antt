@@ -2,14 +2,13 @@
 -- its id and a comma, the last one no comma, and over all 64 nodes that comes to 181 bytes.
 use Prim.Native.Nat.{ℕ, zero, suc, _+_, _-_, _/_, _%_, _^_, _≤_, _<_}
 use native.Mathlib.Omega.{arith}
-use mathlib.Core.Path.{_≡_, refl, ap, sym, _∙_}
+use mathlib.Core.Path.{_≡_, refl, sym}
 use mathlib.Core.Logic.{⊎-elim}
 use mathlib.Core.List.{List, [], _∷_, _++_, append-assoc, append-nil}
 use borrow.Author.Tests.{eq-eqb, ne-eqb}
 use lib.ListN.{length, length-append}
 use Rattle.decimal.specs.Decimal.{numeral, digits}
-use Rattle.decimal.proofs.Order.{lt-or-le, same-or-not}
-use Rattle.decimal.proofs.Numeral.{length-some}
+use Rattle.decimal.proofs.Order.{same-or-not}
 use Rattle.members.specs.Members.{nodesFrom, withCommas, memberText}
 use Rattle.members.specs.Steps.{idText}
 use Rattle.members.proofs.Nodes.{bit, half, nodes-in, nodes-out, nodes-none, nodes-some}

@@ -3,13 +3,13 @@
 ghost use mathlib.Core.Path.{_≡_};
 ghost use Prim.Native.Nat.{_≤_, _<_, _^_};
 ghost use lib.ListN.{length};
-ghost use Rattle.decimal.specs.Bytes.{atFront};
+ghost use Rattle.decimal.specs.Bytes.{Written};
 ghost use Rattle.members.specs.Members.{memberText, readId, readIds, readMembers};
 ghost use Rattle.members.specs.Steps.{idText};
 use decimal::Number;
 
 // One id and how many bytes it took: with a comma behind it, or the last.
-pub enum Id {
+enum Id {
     More(u64, usize),
     Last(u64, usize),
     Bad,
@@ -22,7 +22,7 @@ pub enum Members {
 }
 
 // The set of the node v alone.
-pub fn single(v: u64) -> u64
+fn single(v: u64) -> u64
     requires { ⌜ v < 64 ⌝ }
     ensures { λ r. ⌜ r ≡ 2 ^ v ⌝ }
 {
@@ -30,7 +30,7 @@ pub fn single(v: u64) -> u64
 }
 
 // The id at the start of s, which must be at least `least`.
-pub fn read_id(s: &[u8], least: u64) -> Id
+fn read_id(s: &[u8], least: u64) -> Id
     ensures { λ r. ⌜ r ≡ readId (now (s .entry)) least ⌝ }
 {
     let Number::Got(v, k) = decimal::read_number(s) else {
@@ -49,7 +49,7 @@ pub fn read_id(s: &[u8], least: u64) -> Id
 }
 
 // Rising ids with commas at the start of s. As they rise, 64 turns are enough for all that can be.
-pub fn read_ids(s: &[u8]) -> Members
+fn read_ids(s: &[u8]) -> Members
     ensures { λ r. ⌜ r ≡ readIds 64 (now (s .entry)) 0 ⌝ }
 {
     let mut left: u64 = 64;
@@ -86,8 +86,7 @@ pub fn read_members(s: &[u8]) -> Members
 }
 
 // How many bytes node i takes in the list, where q is what is left of the set, from i on.
-pub fn id_len(i: u64, q: u64) -> usize
-    requires { ⌜ i < 64 ⌝ }
+fn id_len(i: u64, q: u64) -> usize
     ensures { λ r. ⌜ r ≡ length (idText i q) ⌝ }
 {
     if q % 2 == 0 {
@@ -119,10 +118,9 @@ pub fn members_len(m: u64) -> usize
 }
 
 // Writes node i at the front of out, where q is what is left of the set, from i on.
-pub fn put_id(out: &mut [u8], i: u64, q: u64) -> usize
+fn put_id(out: &mut [u8], i: u64, q: u64) -> usize
     requires { ⌜ length (idText i q) ≤ length (now out) ⌝ }
-    ensures { λ r. ⌜ r ≡ length (idText i q) ⌝ }
-    ensures { λ _. ⌜ now (out .exit) ≡ atFront (idText i q) (now (out .entry)) ⌝ }
+    ensures { λ r. ⌜ Written (idText i q) (now (out .entry)) (now (out .exit)) r ⌝ }
 {
     if q % 2 == 0 {
         return 0;
@@ -138,8 +136,7 @@ pub fn put_id(out: &mut [u8], i: u64, q: u64) -> usize
 // Writes the list of m at the front of out, each node into what is left of it, and answers how many bytes that took.
 pub fn put_members(out: &mut [u8], m: u64) -> usize
     requires { ⌜ length (memberText m) ≤ length (now out) ⌝ }
-    ensures { λ r. ⌜ r ≡ length (memberText m) ⌝ }
-    ensures { λ _. ⌜ now (out .exit) ≡ atFront (memberText m) (now (out .entry)) ⌝ }
+    ensures { λ r. ⌜ Written (memberText m) (now (out .entry)) (now (out .exit)) r ⌝ }
 {
     if m == 0 {
         out[0] = 45;

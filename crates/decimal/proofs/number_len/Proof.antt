@@ -1,8 +1,7 @@
 -- The digits counted so far and those of what is left make up the numeral's, one being counted from the start. A numeral has at most
 -- twenty digits, so the count fits.
-use borrow.Author.Needs.{needs}
 use native.Mathlib.Omega.{arith}
-use Prim.Native.Nat.{_+_, _<_, _^_}
+use Prim.Native.Nat.{_+_}
 use mathlib.Core.Path.{_≡_}
 use lib.ListN.{length}
 use Rattle.decimal.specs.Decimal.{numeral}

@@ -80,7 +80,10 @@ returns c =
     let b = c .before .loop in
     let one = numeral-digit (b .m) (omega arith) in
     let h : 0 < length (b .out) = omega (arith, length-some (b .m)) in
-    (c .before .before .number-len .ensures, front-set [] (48 + b .m) (b .out) h ∙ (rw one at (b .inv .promised)))
+    record {
+      count = c .before .before .number-len .ensures;
+      bytes = front-set [] (48 + b .m) (b .out) h ∙ (rw one at (b .inv .promised));
+    }
 
 pub put-number-spec : {M : Type 1} → statement M
 put-number-spec =

@@ -1,12 +1,8 @@
 -- The line's length is that of its fields and three bytes, and each field has few, so that the sum fits.
 use borrow.Author.Needs.{needs}
 use native.Mathlib.Omega.{arith}
-use Prim.Native.Nat.{ℕ, _≤_, _<_, _^_}
-use mathlib.Core.Path.{_≡_}
-use lib.ListN.{length}
-use Rattle.decimal.specs.Decimal.{numeral}
+use Prim.Native.Nat.{_≤_}
 use Rattle.decimal.proofs.Numeral.{length-word}
-use Rattle.members.specs.Members.{memberText}
 use Rattle.members.proofs.Written.{length-members}
 use Rattle.lines.proofs.Texts.{length-line}
 use Rattle.lines.proofs.line_len.Statement.{statement}

@@ -2,7 +2,7 @@
 use borrow.Author.Needs.{needs}
 use native.Mathlib.Omega.{arith}
 use Prim.Native.Nat.{_<_}
-use mathlib.Core.Path.{_≡_, sym, _∙_}
+use mathlib.Core.Path.{sym}
 use denote.Ref.{now}
 use lib.ListN.{length}
 use Rattle.decimal.specs.Decimal.{numeral}
@@ -22,12 +22,12 @@ room c = omega (arith, c .before .before .before .pre, length-field (c .before .
 slice-write-out : tie.Need-slice-write-out
 slice-write-out c =
     let p = c .before .before in
-    omega (arith, room p, p .put-number .ensures .0, p .put-number .kept .0)
+    omega (arith, room p, p .put-number .ensures .count, p .put-number .kept .0)
 
 add-result : tie.Need-add-result
 add-result c =
     let p = c .before .before in
-    omega (arith, room p, p .put-number .ensures .0)
+    omega (arith, room p, p .put-number .ensures .count)
 
 same-length : tie.Need-same-length
 same-length c = search needs
@@ -37,8 +37,8 @@ unfolding fieldText
 returns c =
     let p = c .before .before in
     let a = p .before .before .before .args in
-    rw (p .put-number .ensures .0, p .put-number .ensures .1)
-    (sym (length-field (a .n)), front-byte (numeral (a .n)) 9 (now (a .out)) (room p))
+    rw (p .put-number .ensures .count, p .put-number .ensures .bytes)
+    (record { count = sym (length-field (a .n)); bytes = front-byte (numeral (a .n)) 9 (now (a .out)) (room p) })
 
 pub put-field-spec : {M : Type 1} → statement M
 put-field-spec =

@@ -2,7 +2,7 @@
 use borrow.Author.Needs.{needs}
 use native.Mathlib.Omega.{arith}
 use Prim.Native.Nat.{_<_}
-use mathlib.Core.Path.{_≡_, sym, _∙_}
+use mathlib.Core.Path.{sym}
 use denote.Ref.{now}
 use lib.ListN.{length}
 use Rattle.members.specs.Members.{memberText}
@@ -22,12 +22,12 @@ room c = omega (arith, c .before .before .before .pre, length-last (c .before .b
 slice-write-out : tie.Need-slice-write-out
 slice-write-out c =
     let p = c .before .before in
-    omega (arith, room p, p .put-members .ensures .0, p .put-members .kept .0)
+    omega (arith, room p, p .put-members .ensures .count, p .put-members .kept .0)
 
 add-result : tie.Need-add-result
 add-result c =
     let p = c .before .before in
-    omega (arith, room p, p .put-members .ensures .0)
+    omega (arith, room p, p .put-members .ensures .count)
 
 same-length : tie.Need-same-length
 same-length c = search needs
@@ -37,8 +37,8 @@ unfolding lastText
 returns c =
     let p = c .before .before in
     let a = p .before .before .before .args in
-    rw (p .put-members .ensures .0, p .put-members .ensures .1)
-    (sym (length-last (a .m)), front-byte (memberText (a .m)) 10 (now (a .out)) (room p))
+    rw (p .put-members .ensures .count, p .put-members .ensures .bytes)
+    (record { count = sym (length-last (a .m)); bytes = front-byte (memberText (a .m)) 10 (now (a .out)) (room p) })
 
 pub put-last-spec : {M : Type 1} → statement M
 put-last-spec =

@@ -2,13 +2,12 @@
 use borrow.Author.Needs.{needs}
 use native.Mathlib.Omega.{arith}
 use Prim.Native.Nat.{_+_, _-_, _≤_}
-use mathlib.Core.Path.{_≡_, ap, sym, _∙_}
 use mathlib.Core.List.{_++_, append-assoc}
 use denote.Ref.{now}
 use lib.ListN.{length, length-append}
 use borrow.Rule.Slice.PartMut.{putMid}
-use Rattle.decimal.specs.Bytes.{atFront}
-use Rattle.decimal.proofs.Place.{Written, within, room, next}
+use Rattle.decimal.specs.Bytes.{Written}
+use Rattle.decimal.proofs.Place.{within, room, next}
 use Rattle.lines.specs.Lines.{fieldText, lastText, lineText}
 use Rattle.lines.proofs.Texts.{length-fields}
 use Rattle.lines.proofs.put_line.Statement.{statement}
@@ -31,7 +30,7 @@ members c =
 first : (c : tie.After-put-field) →
     let a = c .before .before .before .args in
     Written (fieldText (a .level)) (now (a .out)) (c .put-field .last .0) (c .put-field .result)
-first c = record { place = c .put-field .ensures .0; bytes = c .put-field .ensures .1 }
+first c = c .put-field .ensures
 
 second : (c : tie.After-put-field2) →
     let f = c .before .before .before .before in
@@ -42,7 +41,7 @@ second : (c : tie.After-put-field2) →
 second c =
     let f = c .before .before .before .before in
     let s = f .before .before .before in
-    next _ _ _ _ (first f) (fieldText (s .args .threshold)) (threshold s) _ _ (c .put-field2 .ensures .0) (c .put-field2 .ensures .1)
+    next _ _ _ _ (first f) (fieldText (s .args .threshold)) (threshold s) _ _ (c .put-field2 .ensures)
 
 third : (c : tie.After-put-last) →
     let g = c .before .before .before .before in
@@ -56,7 +55,7 @@ third : (c : tie.After-put-last) →
 third c =
     let g = c .before .before .before .before in
     let s = g .before .before .before .before .before .before .before in
-    next _ _ _ _ (second g) (lastText (s .args .members)) (members s) _ _ (c .put-last .ensures .0) (c .put-last .ensures .1)
+    next _ _ _ _ (second g) (lastText (s .args .members)) (members s) _ _ (c .put-last .ensures)
 
 put-field-requires : tie.Need-put-field-requires
 put-field-requires c κs = level (c .before .before)
@@ -87,7 +86,7 @@ add-b c =
     let g = c .before .before in
     let s = g .before .before .before .before .before .before .before in
     let a = s .args in
-    omega (arith, second g .place, threshold s, length-append (fieldText (a .level)) (fieldText (a .threshold)))
+    omega (arith, second g .count, threshold s, length-append (fieldText (a .level)) (fieldText (a .threshold)))
 
 sub-put-last : tie.Need-sub-put-last
 sub-put-last c =
@@ -115,7 +114,7 @@ add-result c =
     let p = c .before .before in
     let s = p .before .before .before .before .before .before .before .before .before .before .before in
     let a = s .args in
-    omega (arith, third p .place, members s, length-append (fieldText (a .level) ++ fieldText (a .threshold)) (lastText (a .members)))
+    omega (arith, third p .count, members s, length-append (fieldText (a .level) ++ fieldText (a .threshold)) (lastText (a .members)))
 
 same-length : tie.Need-same-length
 same-length c = search needs
@@ -126,7 +125,7 @@ returns c =
     let p = c .before .before in
     let a = p .before .before .before .before .before .before .before .before .before .before .before .args in
     let e = append-assoc (fieldText (a .level)) (fieldText (a .threshold)) (lastText (a .members)) in
-    (third p .place ∙ ap length e, third p .bytes ∙ ap (λ w. atFront w (now (a .out))) e)
+    rw (← e) (third p)
 
 pub put-line-spec : {M : Type 1} → statement M
 put-line-spec =

@@ -2,13 +2,12 @@
 use borrow.Author.Needs.{needs}
 use borrow.Author.Tests.{lt-ltb, le-ltb}
 use native.Mathlib.Omega.{arith}
-use Prim.Native.Nat.{_+_, _-_, _≤_}
+use Prim.Native.Nat.{_+_, _≤_}
 use mathlib.Core.Path.{_≡_, ap, sym, _∙_}
 use denote.Ref.{now}
 use lib.ListN.{length, drop, length-drop}
 use Rattle.decimal.specs.declared.Number.the-variants.{Got}
 use Rattle.decimal.proofs.Order.{rest}
-use Rattle.members.specs.declared.Members.the-variants.{Got as GotMembers}
 use Rattle.lines.specs.Lines.{readField, readLast, readLine}
 use Rattle.lines.proofs.Fields.{field-forth, last-forth}
 use Rattle.lines.proofs.read_line.Statement.{statement}

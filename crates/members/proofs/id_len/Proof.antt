@@ -1,9 +1,7 @@
--- The tests are those of what a node writes; an id below 64 takes at most two bytes, so the comma's fits.
+-- The tests are those of what a node writes; a number takes at most twenty bytes, so the comma's fits.
 use borrow.Author.Needs.{needs}
 use native.Mathlib.Omega.{arith}
-use mathlib.Core.Path.{_≡_, ap, sym, _∙_}
-use lib.ListN.{length}
-use Rattle.decimal.proofs.Numeral.{length-id}
+use Rattle.decimal.proofs.Numeral.{length-word}
 use Rattle.members.proofs.Written.{id-out, id-last, length-more}
 use Rattle.members.proofs.id_len.Statement.{statement}
 use Rattle.members.proofs.id_len.Tie as tie
@@ -20,7 +18,7 @@ returns-2 c =
     rw (id-last (a .i) (a .q) (c .before .before .if1 .left) (c .if2 .taken)) (c .before .number-len .ensures)
 
 add-result : tie.Need-add-result
-add-result c = omega (arith, length-id (c .before .before .before .args .i) (omega arith))
+add-result c = omega (arith, length-word (c .before .before .before .args .i) (omega arith))
 
 returns-3 : tie.Need-returns-3
 returns-3 c =

@@ -3,12 +3,11 @@
 use borrow.Author.Needs.{needs}
 use native.Mathlib.Omega.{arith}
 use native.Mathlib.Nat.{zero-add}
-use Prim.Native.Nat.{ℕ, _+_, _-_, _/_, _^_, _≤_, _<_}
-use mathlib.Core.Path.{_≡_, refl, ap, sym, _∙_}
+use Prim.Native.Nat.{_+_, _/_}
+use mathlib.Core.Path.{_≡_, ap, _∙_}
 use lib.ListN.{length}
 use Rattle.members.specs.Members.{memberText}
-use Rattle.members.specs.Steps.{idText}
-use Rattle.members.proofs.Written.{text-none, text-some, length-members}
+use Rattle.members.proofs.Written.{text-none, length-members}
 use Rattle.members.proofs.Walk.{Walk, idsLeft, start, below-64, step, left-all, left-step, left-none}
 use Rattle.members.proofs.members_len.Statement.{statement}
 use Rattle.members.proofs.members_len.Tie as tie
@@ -28,7 +27,7 @@ loop-holds c =
     (start m (omega arith), zero-add (length (idsLeft 0 m)) ∙ ap length (left-all m (c .if1 .left)))
 
 id-len-requires : tie.Need-id-len-requires Inv-loop μ-loop
-id-len-requires c κs = below-64 _ _ (c .before .loop .inv .0) (c .loop-test .taken)
+id-len-requires c κs = search needs
 
 -- the bytes of this node are among those that were left
 fits : (c : tie.After-id-len Inv-loop μ-loop) →

@@ -1,11 +1,10 @@
 -- The id is written at the front and the comma right behind it, which is the same as writing both at once.
 use borrow.Author.Needs.{needs}
 use native.Mathlib.Omega.{arith}
-use Prim.Native.Nat.{_≤_, _<_}
-use mathlib.Core.Path.{_≡_, refl, sym, _∙_}
+use Prim.Native.Nat.{_<_}
+use mathlib.Core.Path.{refl}
 use denote.Ref.{now}
-use lib.ListN.{length, length-set}
-use Rattle.decimal.specs.Bytes.{atFront}
+use lib.ListN.{length}
 use Rattle.decimal.specs.Decimal.{numeral}
 use Rattle.decimal.proofs.Place.{front-byte}
 use Rattle.members.proofs.Written.{id-out, id-last, id-more, id-in, length-more}
@@ -15,7 +14,7 @@ use Rattle.members.proofs.put_id.Tie as tie
 returns : tie.Need-returns
 returns c =
     let a = c .before .before .args in
-    rw (id-out (a .i) (a .q) (c .if1 .taken)) (refl, refl)
+    rw (id-out (a .i) (a .q) (c .if1 .taken)) (record { count = refl; bytes = refl })
 
 put-number-requires : tie.Need-put-number-requires
 put-number-requires c κs =
@@ -45,12 +44,12 @@ room c =
 slice-write-out : tie.Need-slice-write-out
 slice-write-out c =
     let p = c .before .before .before in
-    omega (arith, room c, p .put-number .ensures .0, p .put-number .kept .0)
+    omega (arith, room c, p .put-number .ensures .count, p .put-number .kept .0)
 
 add-result : tie.Need-add-result
 add-result c =
     let p = c .before .before .before in
-    omega (arith, room c, p .put-number .ensures .0)
+    omega (arith, room c, p .put-number .ensures .count)
 
 same-length-2 : tie.Need-same-length-2
 same-length-2 c = search needs
@@ -60,10 +59,11 @@ returns-3 c =
     let p = c .before .before .before in
     let e = p .before .before in
     let a = e .before .before .args in
-    rw (p .put-number .ensures .0, p .put-number .ensures .1) (
-      length-more (a .i) (a .q) (e .if1 .left) (c .if2 .left),
-      rw (id-more (a .i) (a .q) (e .if1 .left) (c .if2 .left)) (front-byte (numeral (a .i)) 44 (now (a .out)) (room c)),
-    )
+    rw (p .put-number .ensures .count, p .put-number .ensures .bytes)
+    (record {
+      count = length-more (a .i) (a .q) (e .if1 .left) (c .if2 .left);
+      bytes = rw (id-more (a .i) (a .q) (e .if1 .left) (c .if2 .left)) (front-byte (numeral (a .i)) 44 (now (a .out)) (room c));
+    })
 
 pub put-id-spec : {M : Type 1} → statement M
 put-id-spec =

@@ -5,10 +5,10 @@ use native.Mathlib.Omega.{arith}
 use native.Mathlib.Nat.{zero-add}
 use Prim.Native.Nat.{ℕ, _+_, _-_, _/_, _^_, _≤_, _<_}
 use mathlib.Core.Path.{_≡_, refl, ap, sym, _∙_}
-use mathlib.Core.List.{List, [], _∷_}
+use mathlib.Core.List.{List, []}
 use denote.Ref.{now}
 use lib.ListN.{length, take, drop, length-drop, take-append-drop}
-use Rattle.decimal.specs.Bytes.{atFront}
+use Rattle.decimal.specs.Bytes.{atFront, Written}
 use Rattle.decimal.proofs.Order.{rest}
 use Rattle.decimal.proofs.Place.{atPlace, length-place, lent, place-place, set-place}
 use Rattle.members.specs.Members.{memberText}
@@ -62,12 +62,10 @@ module _ (out₀ : List ℕ) (m : ℕ) (out : List ℕ) (i q at : ℕ) (l : Left
       }
 
   -- with nothing left all is written
-  done : q ≡ 0 → (at ≡ length (memberText m)) × (out ≡ atFront (memberText m) out₀)
+  done : q ≡ 0 → Written (memberText m) out₀ out at
   done z =
-      let n : idsLeft i q ≡ [] = left-nothing i q z in (
-        omega (arith, l .place, ap length n),
-        sym (take-append-drop at out) ∙ (rw n at (l .promised)),
-      )
+      let n : idsLeft i q ≡ [] = left-nothing i q z in
+      record { count = omega (arith, l .place, ap length n); bytes = sym (take-append-drop at out) ∙ (rw n at (l .promised)) }
 
 abbrev Inv-loop : tie.InvT-loop
 Inv-loop out₀ m i₀ q₀ at₀ out i q at = Left out₀ m out i q at
@@ -86,7 +84,7 @@ returns c =
     let a = c .before .before .args in
     let e = text-none (a .m) (c .if1 .taken) in
     let h : 0 < length (now (a .out)) = omega (arith, ap length e) in
-    rw e (refl, set-place 0 45 (now (a .out)) h)
+    rw e (record { count = refl; bytes = set-place 0 45 (now (a .out)) h })
 
 loop-holds : tie.Need-loop-holds Inv-loop μ-loop
 loop-holds c =
@@ -109,7 +107,7 @@ add-at : tie.Need-add-at Inv-loop μ-loop
 add-at c =
     let t = c .before .before .before .before in
     let l = t .before .loop in
-    omega (arith, fits _ _ _ _ _ _ (l .inv) (t .loop-test .taken), c .before .before .put-id .ensures .0, l .inv .same)
+    omega (arith, fits _ _ _ _ _ _ (l .inv) (t .loop-test .taken), c .before .before .put-id .ensures .count, l .inv .same)
 
 add-i : tie.Need-add-i Inv-loop μ-loop
 add-i c =
@@ -124,7 +122,7 @@ loop-again c =
     let t = c .before .before .before .before in
     let p = c .before .before .put-id in
     let l = t .before .loop in
-    rw (p .ensures .0, p .ensures .1, lent (l .at) (idText (l .i) (l .q)) (l .out) (fits _ _ _ _ _ _ (l .inv) (t .loop-test .taken)))
+    rw (p .ensures .count, p .ensures .bytes, lent (l .at) (idText (l .i) (l .q)) (l .out) (fits _ _ _ _ _ _ (l .inv) (t .loop-test .taken)))
     (turn _ _ _ _ _ _ (l .inv) (t .loop-test .taken))
 
 same-length-2 : tie.Need-same-length-2 Inv-loop μ-loop

@@ -1,10 +1,9 @@
 -- The loop keeps `Ready`: an id with a comma makes it ready for the rest, and the last id, a bad one, or too many end the reading.
 use borrow.Author.Needs.{needs}
 use native.Mathlib.Omega.{arith}
-use Prim.Native.Nat.{ℕ, _≤_}
-use mathlib.Core.Path.{_≡_, refl, ap, sym, _∙_}
+use mathlib.Core.Path.{_≡_, ap, sym, _∙_}
 use denote.Ref.{now}
-use lib.ListN.{length, drop}
+use lib.ListN.{drop}
 use Rattle.decimal.proofs.Order.{rest}
 use Rattle.members.specs.declared.Id.the-variants.{More, Last}
 use Rattle.members.specs.Members.{readId}

@@ -1,0 +1,69 @@
+-- Document 01's lines, and lines on both sides of each rule, read by the definition. Each is a computation.
+use Prim.Native.Nat.{_-_, _^_}
+use mathlib.Core.Path.{_≡_, refl}
+use mathlib.Core.List.{[], _∷_}
+use lib.ListN.{length}
+use Rattle.decimal.specs.Decimal.{digits, numeral, digitOf, digitAt, numberOf, readNumber}
+use Rattle.members.specs.Members.{nodesFrom, withCommas, memberText, readId, join, readIds, readMembers}
+use Rattle.lines.specs.declared.Line.the-variants.{Good, Bad}
+use Rattle.lines.specs.Lines.{fieldText, lastText, lineText, readField, readLast, readLine}
+
+pub record Read : Type 0 where
+  -- 0 2 0,1,2: a line of Trio
+  pub trio : readLine (48 ∷ 9 ∷ 50 ∷ 9 ∷ 48 ∷ 44 ∷ 49 ∷ 44 ∷ 50 ∷ 10 ∷ []) ≡ Good 0 2 7 10
+  -- 3 255 63 and more behind it: the greatest numbers
+  pub greatest : readLine (51 ∷ 9 ∷ 50 ∷ 53 ∷ 53 ∷ 9 ∷ 54 ∷ 51 ∷ 10 ∷ 48 ∷ []) ≡ Good 3 255 (2 ^ 63) 9
+  -- 0 0 -: no members
+  pub hyphen : readLine (48 ∷ 9 ∷ 48 ∷ 9 ∷ 45 ∷ 10 ∷ []) ≡ Good 0 0 0 6
+  -- 4 1 0: no level
+  pub level-4 : readLine (52 ∷ 9 ∷ 49 ∷ 9 ∷ 48 ∷ 10 ∷ []) ≡ Bad
+  -- 0 256 0: no threshold
+  pub threshold-256 : readLine (48 ∷ 9 ∷ 50 ∷ 53 ∷ 54 ∷ 9 ∷ 48 ∷ 10 ∷ []) ≡ Bad
+  -- 0 01 0: a leading zero
+  pub leading-zero : readLine (48 ∷ 9 ∷ 48 ∷ 49 ∷ 9 ∷ 48 ∷ 10 ∷ []) ≡ Bad
+  -- 0 1 64: no node
+  pub node-64 : readLine (48 ∷ 9 ∷ 49 ∷ 9 ∷ 54 ∷ 52 ∷ 10 ∷ []) ≡ Bad
+  -- 0 1 1,0: not rising
+  pub falling : readLine (48 ∷ 9 ∷ 49 ∷ 9 ∷ 49 ∷ 44 ∷ 48 ∷ 10 ∷ []) ≡ Bad
+  -- 0 1 1,1: a repeat
+  pub repeated : readLine (48 ∷ 9 ∷ 49 ∷ 9 ∷ 49 ∷ 44 ∷ 49 ∷ 10 ∷ []) ≡ Bad
+  -- 0 1 1, and no more ids
+  pub dangling-comma : readLine (48 ∷ 9 ∷ 49 ∷ 9 ∷ 49 ∷ 44 ∷ 10 ∷ []) ≡ Bad
+  -- 0 1 and nothing, which is not the same as a hyphen
+  pub no-list : readLine (48 ∷ 9 ∷ 49 ∷ 9 ∷ 10 ∷ []) ≡ Bad
+  -- 0 1 -,0: a hyphen that is not alone
+  pub hyphen-and-more : readLine (48 ∷ 9 ∷ 49 ∷ 9 ∷ 45 ∷ 44 ∷ 48 ∷ 10 ∷ []) ≡ Bad
+  -- 0 1 0 with a space for a tab
+  pub space : readLine (48 ∷ 32 ∷ 49 ∷ 9 ∷ 48 ∷ 10 ∷ []) ≡ Bad
+  -- 0 1 0 with CR before LF
+  pub carriage-return : readLine (48 ∷ 9 ∷ 49 ∷ 9 ∷ 48 ∷ 13 ∷ 10 ∷ []) ≡ Bad
+  -- 0 1 0 and no line's end
+  pub no-end : readLine (48 ∷ 9 ∷ 49 ∷ 9 ∷ 48 ∷ []) ≡ Bad
+  pub nothing : readLine [] ≡ Bad
+
+pub read : Read
+unfolding readLine readField readLast readNumber numberOf digitAt digitOf readMembers readIds readId join
+read =
+    record {
+      trio = refl;
+      greatest = refl;
+      hyphen = refl;
+      level-4 = refl;
+      threshold-256 = refl;
+      leading-zero = refl;
+      node-64 = refl;
+      falling = refl;
+      repeated = refl;
+      dangling-comma = refl;
+      no-list = refl;
+      hyphen-and-more = refl;
+      space = refl;
+      carriage-return = refl;
+      no-end = refl;
+      nothing = refl;
+    }
+
+-- the longest line is as long as document 01 says
+pub longest : length (lineText 3 255 (2 ^ 64 - 1)) ≡ 188
+unfolding lineText fieldText lastText memberText withCommas nodesFrom numeral digits
+longest = refl
