@@ -1,3 +1,4 @@
+pub mod Words
 pub mod Bools
 pub mod Members
 pub mod Size

@@ -1,0 +1,25 @@
+-- The steps of satisfaction, as the code takes them: the members that are in u, and the run of inner sets after the record.
+use mathlib.Core.Path.{_≡_, refl, sym, ap, _∙_}
+use mathlib.Core.List.{List}
+use Prim.Native.Nat.{ℕ, zero, suc, _+_, _-_, _<_, _≤_}
+use native.Mathlib.Nat.{lt-irrefl}
+use native.Mathlib.Numerals.{sub-one}
+use lib.Dec.{leb}
+use Rattle.sets.specs.Sets.{size, _∩_}
+use Rattle.meanings.specs.Table.{records, members, threshold, level, satisfies}
+use Rattle.meanings.specs.Faults.{check, sound}
+use Rattle.tables.proofs.Runs.{innerFrom, inner-from}
+use Rattle.tables.proofs.Sound.{sound-table}
+
+pub judged-last : (t : List ℕ) (u r : ℕ) → satisfies 0 t u r ≡ leb (threshold t r) (size 64 (members t r ∩ u))
+unfolding satisfies
+judged-last t u r = refl
+
+pub judged-more : (left : ℕ) (t : List ℕ) (u r : ℕ) → check t ≡ sound → r < records t → 0 < left
+    → satisfies left t u r ≡ leb (threshold t r) (size 64 (members t r ∩ u) + innerFrom (λ j. satisfies (left - 1) t u j) t (level t r) (r + 1))
+unfolding satisfies
+judged-more zero t u r e l h = absurd (lt-irrefl 0 h)
+judged-more (suc left) t u r e l h =
+    ap (λ (k : ℕ). leb (threshold t r) (size 64 (members t r ∩ u) + k))
+    (inner-from t r (λ j l'. sound-table t e .at j l' .in-step) (λ j. satisfies left t u j) l
+    ∙ ap (λ (m : ℕ). innerFrom (λ j. satisfies m t u j) t (level t r) (r + 1)) (sym (sub-one (suc left))))
