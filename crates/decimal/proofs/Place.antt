@@ -63,12 +63,20 @@ front-place u v d h =
 pub length-front : (w d : List ℕ) → length w ≤ length d → length (atFront w d) ≡ length d
 length-front w d h = let a : 0 + length w ≤ length d = omega arith in length-place 0 w d a
 
-pub front-byte : (w : List ℕ) (x : ℕ) (d : List ℕ) → length w < length d → set (atFront w d) (length w) x ≡ atFront (w ++ x ∷ []) d
-front-byte w x d h =
-    let a : length w ≤ length d = omega arith in
-    let b : length w + 1 ≤ length d = omega arith in
-    let g : length w < length (atFront w d) = omega (arith, length-front w d a) in
-    set-place (length w) x (atFront w d) g ∙ front-place w (x ∷ []) d b
+-- behind u, which was written into d, one byte is set
+module _ (u d o : List ℕ) (at : ℕ) (h : Written u d o at) (fits : length u < length d) where
+  pub within-byte : at < length o
+  within-byte =
+      let a : length u ≤ length d = omega arith in
+      omega (arith, h .count, ap length (h .bytes), length-front u d a)
+
+  pub next-byte : (x : ℕ) → Written (u ++ x ∷ []) d (set o at x) (at + 1)
+  next-byte x =
+      let b : length u + 1 ≤ length d = omega arith in
+      record {
+        count = omega (arith, h .count, length-append u (x ∷ []));
+        bytes = set-place at x o within-byte ∙ rw (h .count, h .bytes) (front-place u (x ∷ []) d b);
+      }
 
 -- behind u, which was written into d, what is left is lent to a writer of v
 module _ (u d o : List ℕ) (at : ℕ) (h : Written u d o at) (v : List ℕ) (fits : length u + length v ≤ length d) where

@@ -85,7 +85,8 @@ data Digits (a b c : ℕ) : ℕ → ℕ → Type 0 where
   two : 0 < a → a ≤ 9 → b ≤ 9 → Digits a b c (a * 10 + b) 2
   three : 0 < a → a ≤ 9 → b ≤ 9 → c ≤ 9 → a * 100 + b * 10 + c ≤ 255 → Digits a b c (a * 100 + b * 10 + c) 3
 
-never : (n k : ℕ) {P : Type 0} → Bad ≡ Got n k → P
+-- a refusal is no number
+pub never : (n k : ℕ) {P : Type 0} → Bad ≡ Got n k → P
 never n k e = let z : _≡_ {A = ℕ} 0 1 = cc in absurd (omega arith)
 
 got : (a b c v j n k : ℕ) → Got v j ≡ Got n k → Digits a b c v j → Digits a b c n k

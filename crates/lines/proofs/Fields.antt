@@ -18,6 +18,7 @@ use Rattle.decimal.proofs.Round as number
 use Rattle.members.specs.Members.{memberText, readMembers, onMembers}
 use Rattle.members.specs.declared.Members.{Members}
 use Rattle.members.specs.declared.Members.the-variants.{Got as GotMembers, Bad as BadMembers}
+use Rattle.members.proofs.Forth as listed
 use Rattle.members.proofs.Round as members
 use Rattle.lines.specs.Lines.{fieldText, lastText, readField, readLast}
 
@@ -58,12 +59,6 @@ pub record ReadsLast (s : List ℕ) (m k : ℕ) : Type 0 where
   pub text : take k s ≡ lastText m
   pub within : k ≤ length s
 
-never : (v k : ℕ) {P : Type 0} → Bad ≡ Got v k → P
-never v k e = let z : _≡_ {A = ℕ} 0 1 = cc in absurd (omega arith)
-
-never-members : (m k : ℕ) {P : Type 0} → BadMembers ≡ GotMembers m k → P
-never-members m k e = let z : _≡_ {A = ℕ} 0 1 = cc in absurd (omega arith)
-
 tab : (s : List ℕ) (w j : ℕ) → number.Reads s w j → getD s j 0 ≡ 9 → ReadsField s w (j + 1)
 unfolding fieldText
 tab s w j r e =
@@ -78,7 +73,7 @@ line-end s w j r e =
 
 by-number : (s : List ℕ) (v k : ℕ) (x : Number) → readNumber s ≡ x
     → onNumber x Bad (λ w j. cond (eqb (getD s j 0) 9) (Got w (j + 1)) Bad) ≡ Got v k → ReadsField s v k
-by-number s v k Bad e g = never v k g
+by-number s v k Bad e g = number.never v k g
 by-number s v k (Got w j) e g =
     ⊎-elim
     (λ t.
@@ -86,12 +81,12 @@ by-number s v k (Got w j) e g =
     let x : w ≡ v = cc in
     let y : j + 1 ≡ k = cc in
     rw (← x, ← y) (tab s w j (number.written-read s w j e) t))
-    (λ n. never v k (simp (ne-eqb (getD s j 0) 9 n) at g))
+    (λ n. number.never v k (simp (ne-eqb (getD s j 0) 9 n) at g))
     (same-or-not (getD s j 0) 9)
 
 by-members : (s : List ℕ) (m k : ℕ) (x : Members) → readMembers s ≡ x
     → onMembers x BadMembers (λ w j. cond (eqb (getD s j 0) 10) (GotMembers w (j + 1)) BadMembers) ≡ GotMembers m k → ReadsLast s m k
-by-members s m k BadMembers e g = never-members m k g
+by-members s m k BadMembers e g = listed.never m k g
 by-members s m k (GotMembers w j) e g =
     ⊎-elim
     (λ t.
@@ -99,7 +94,7 @@ by-members s m k (GotMembers w j) e g =
     let x : w ≡ m = cc in
     let y : j + 1 ≡ k = cc in
     rw (← x, ← y) (line-end s w j (members.written-read s w j e) t))
-    (λ n. never-members m k (simp (ne-eqb (getD s j 0) 10 n) at g))
+    (λ n. listed.never m k (simp (ne-eqb (getD s j 0) 10 n) at g))
     (same-or-not (getD s j 0) 10)
 
 pub field-forth : (s : List ℕ) (v k : ℕ) → readField s ≡ Got v k → ReadsField s v k

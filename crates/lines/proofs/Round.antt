@@ -2,14 +2,14 @@
 -- of the record.
 use Prim.Native.Nat.{ℕ, _+_, _^_, _≤_, _<_}
 use native.Mathlib.Omega.{arith}
-use mathlib.Core.Path.{_≡_, refl, ap, sym}
+use mathlib.Core.Path.{_≡_, refl, ap, sym, _∙_}
 use mathlib.Core.Bool.{cond}
 use mathlib.Core.Logic.{⊎-elim}
 use mathlib.Core.List.{List, _++_, append-assoc}
 use borrow.Author.Tests.{lt-ltb, le-ltb}
 use lib.Dec.{ltb}
-use lib.ListN.{length, take, drop, length-drop}
-use lib.Seq.{take-add, drop-drop, drop-append-seam}
+use lib.ListN.{length, take, drop, length-drop, take-append-drop}
+use lib.Seq.{take-add, drop-drop, drop-append-seam, length-take-le}
 use Rattle.decimal.specs.Decimal.{onNumber}
 use Rattle.decimal.specs.declared.Number.{Number}
 use Rattle.decimal.specs.declared.Number.the-variants.{Got, Bad}
@@ -90,3 +90,12 @@ module _ (s : List ℕ) (l t m k : ℕ) where
 pub written-read : (s : List ℕ) (l t m k : ℕ) → readLine s ≡ Good l t m k → Reads s l t m k
 unfolding readLine
 written-read s l t m k e = by-level s l t m k (readField s) refl e
+
+-- as many bytes as the line has are used, and what is left follows it
+pub read-used : (s : List ℕ) (l t m k : ℕ) → readLine s ≡ Good l t m k → k ≡ length (lineText l t m)
+read-used s l t m k e =
+    let r = written-read s l t m k e in
+    sym (length-take-le k s (r .within)) ∙ ap length (r .text)
+
+pub read-split : (s : List ℕ) (l t m k : ℕ) → readLine s ≡ Good l t m k → s ≡ lineText l t m ++ drop k s
+read-split s l t m k e = sym (take-append-drop k s) ∙ ap (λ w. w ++ drop k s) (written-read s l t m k e .text)

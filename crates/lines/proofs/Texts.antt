@@ -30,3 +30,6 @@ length-line l t m = omega (arith, length-fields l t m, length-field l, length-fi
 pub length-most : (l t m : ℕ) → l ≤ 3 → t ≤ 255 → length (lineText l t m) ≤ 188
 length-most l t m a b =
     omega (arith, length-line l t m, length-digit l (omega arith), length-byte t b, length-members m)
+
+pub length-some : (l t m : ℕ) → 3 ≤ length (lineText l t m)
+length-some l t m = omega (arith, length-line l t m)

@@ -50,7 +50,8 @@ and-more t least v k m u o s =
       within = omega (arith, o .within, s .within, length-drop k t);
     }
 
-never : (m u : ℕ) {P : Type 0} → Bad ≡ Got m u → P
+-- a refusal is no set
+pub never : (m u : ℕ) {P : Type 0} → Bad ≡ Got m u → P
 never m u e = let z : _≡_ {A = ℕ} 0 1 = cc in absurd (omega arith)
 
 joined : (t : List ℕ) (least v k : ℕ) → Took t least v k (44 ∷ []) → (x : Members)

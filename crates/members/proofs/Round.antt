@@ -11,7 +11,7 @@ use lib.ListN.{length, getD, take}
 use Rattle.decimal.specs.Decimal.{numeral, digitAt}
 use Rattle.decimal.proofs.Order.{same-or-not}
 use Rattle.decimal.proofs.Numeral.{numeral-first}
-use Rattle.members.specs.declared.Members.the-variants.{Got, Bad}
+use Rattle.members.specs.declared.Members.the-variants.{Got}
 use Rattle.members.specs.Members.{nodesFrom, withCommas, memberText, readIds, readMembers}
 use Rattle.members.proofs.Nodes.{maskOf, nodes-some, nodes-few, nodes-rise, mask-nodes, nodes-mask, mask-some}
 use Rattle.members.proofs.Written.{text-none, text-some}
@@ -54,9 +54,6 @@ pub record Reads (s : List ℕ) (m k : ℕ) : Type 0 where
   pub set : m < 2 ^ 64
   pub text : take k s ≡ memberText m
   pub within : k ≤ length s
-
-never : (m k : ℕ) {P : Type 0} → Bad ≡ Got m k → P
-never m k e = let z : _≡_ {A = ℕ} 0 1 = cc in absurd (omega arith)
 
 reads-hyphen : (s : List ℕ) → getD s 0 0 ≡ 45 → Reads s 0 1
 reads-hyphen [] e = absurd (omega arith)

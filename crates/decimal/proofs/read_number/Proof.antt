@@ -1,7 +1,13 @@
 -- Each return is one case of the definition: the tests that led there are its tests.
 use borrow.Author.Needs.{needs}
 use borrow.Author.Tests.{lt-ltb, le-ltb, eq-eqb, ne-eqb}
+use Prim.Native.Nat.{_+_, _*_}
+use mathlib.Core.Path.{_≡_}
+use mathlib.Core.Bool.{cond}
+use denote.Ref.{now}
+use lib.Dec.{ltb}
 use Rattle.decimal.specs.Decimal.{readNumber, numberOf}
+use Rattle.decimal.specs.declared.Number.the-variants.{Got, Bad}
 use Rattle.decimal.proofs.read_number.Statement.{statement}
 use Rattle.decimal.proofs.read_number.Tie as tie
 
@@ -58,33 +64,28 @@ add-v c = search needs
 add-v-2 : tie.Need-add-v-2
 add-v-2 c = search needs
 
-returns-5 : tie.Need-returns-5
+-- with three digits, the value decides
+three : (c : tie.Else4) →
+    let e = c .before .before .before in
+    let a = e .before .before .before in
+    let v = a .digit-at .result * 100 + e .digit-at2 .result * 10 + c .before .digit-at3 .result in
+    readNumber (now (a .before .before .args .s)) ≡ cond (ltb 255 v) Bad (Got v 3)
 unfolding readNumber numberOf
-returns-5 c =
-    let f = c .before .before in
-    let e = f .before .before in
-    rw (← f .digit-at3 .ensures, ← e .digit-at2 .ensures, ← e .before .before .before .digit-at .ensures)
+three c =
+    let e = c .before .before .before in
+    rw (← c .before .digit-at3 .ensures, ← e .digit-at2 .ensures, ← e .before .before .before .digit-at .ensures)
     (simp (
       le-ltb _ _ (e .before .before .if1 .left),
       ne-eqb _ _ (e .before .if2 .left),
-      le-ltb _ _ (f .before .if3 .left),
-      le-ltb _ _ (c .before .if4 .left),
-      lt-ltb _ _ (c .if5 .taken),
+      le-ltb _ _ (c .before .before .if3 .left),
+      le-ltb _ _ (c .if4 .left),
     ))
 
+returns-5 : tie.Need-returns-5
+returns-5 c = rw (three (c .before)) (simp (lt-ltb _ _ (c .if5 .taken)))
+
 returns-6 : tie.Need-returns-6
-unfolding readNumber numberOf
-returns-6 c =
-    let f = c .before .before in
-    let e = f .before .before in
-    rw (← f .digit-at3 .ensures, ← e .digit-at2 .ensures, ← e .before .before .before .digit-at .ensures)
-    (simp (
-      le-ltb _ _ (e .before .before .if1 .left),
-      ne-eqb _ _ (e .before .if2 .left),
-      le-ltb _ _ (f .before .if3 .left),
-      le-ltb _ _ (c .before .if4 .left),
-      le-ltb _ _ (c .if5 .left),
-    ))
+returns-6 c = rw (three (c .before)) (simp (le-ltb _ _ (c .if5 .left)))
 
 pub read-number-spec : {M : Type 1} → statement M
 read-number-spec =

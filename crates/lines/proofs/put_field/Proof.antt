@@ -2,11 +2,10 @@
 use borrow.Author.Needs.{needs}
 use native.Mathlib.Omega.{arith}
 use Prim.Native.Nat.{_<_}
-use mathlib.Core.Path.{sym}
 use denote.Ref.{now}
 use lib.ListN.{length}
 use Rattle.decimal.specs.Decimal.{numeral}
-use Rattle.decimal.proofs.Place.{front-byte}
+use Rattle.decimal.proofs.Place.{within-byte, next-byte}
 use Rattle.lines.specs.Lines.{fieldText}
 use Rattle.lines.proofs.Texts.{length-field}
 use Rattle.lines.proofs.put_field.Statement.{statement}
@@ -20,25 +19,17 @@ room : (c : tie.After-put-number) → let a = c .before .before .before .args in
 room c = omega (arith, c .before .before .before .pre, length-field (c .before .before .before .args .n))
 
 slice-write-out : tie.Need-slice-write-out
-slice-write-out c =
-    let p = c .before .before in
-    omega (arith, room p, p .put-number .ensures .count, p .put-number .kept .0)
+slice-write-out c = let p = c .before .before in within-byte _ _ _ _ (p .put-number .ensures) (room p)
 
 add-result : tie.Need-add-result
-add-result c =
-    let p = c .before .before in
-    omega (arith, room p, p .put-number .ensures .count)
+add-result c = let p = c .before .before in omega (arith, room p, p .put-number .ensures .count)
 
 same-length : tie.Need-same-length
 same-length c = search needs
 
 returns : tie.Need-returns
 unfolding fieldText
-returns c =
-    let p = c .before .before in
-    let a = p .before .before .before .args in
-    rw (p .put-number .ensures .count, p .put-number .ensures .bytes)
-    (record { count = sym (length-field (a .n)); bytes = front-byte (numeral (a .n)) 9 (now (a .out)) (room p) })
+returns c = let p = c .before .before in next-byte _ _ _ _ (p .put-number .ensures) (room p) 9
 
 pub put-field-spec : {M : Type 1} → statement M
 put-field-spec =

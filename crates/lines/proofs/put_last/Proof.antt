@@ -2,11 +2,10 @@
 use borrow.Author.Needs.{needs}
 use native.Mathlib.Omega.{arith}
 use Prim.Native.Nat.{_<_}
-use mathlib.Core.Path.{sym}
 use denote.Ref.{now}
 use lib.ListN.{length}
 use Rattle.members.specs.Members.{memberText}
-use Rattle.decimal.proofs.Place.{front-byte}
+use Rattle.decimal.proofs.Place.{within-byte, next-byte}
 use Rattle.lines.specs.Lines.{lastText}
 use Rattle.lines.proofs.Texts.{length-last}
 use Rattle.lines.proofs.put_last.Statement.{statement}
@@ -20,25 +19,17 @@ room : (c : tie.After-put-members) → let a = c .before .before .before .args i
 room c = omega (arith, c .before .before .before .pre, length-last (c .before .before .before .args .m))
 
 slice-write-out : tie.Need-slice-write-out
-slice-write-out c =
-    let p = c .before .before in
-    omega (arith, room p, p .put-members .ensures .count, p .put-members .kept .0)
+slice-write-out c = let p = c .before .before in within-byte _ _ _ _ (p .put-members .ensures) (room p)
 
 add-result : tie.Need-add-result
-add-result c =
-    let p = c .before .before in
-    omega (arith, room p, p .put-members .ensures .count)
+add-result c = let p = c .before .before in omega (arith, room p, p .put-members .ensures .count)
 
 same-length : tie.Need-same-length
 same-length c = search needs
 
 returns : tie.Need-returns
 unfolding lastText
-returns c =
-    let p = c .before .before in
-    let a = p .before .before .before .args in
-    rw (p .put-members .ensures .count, p .put-members .ensures .bytes)
-    (record { count = sym (length-last (a .m)); bytes = front-byte (memberText (a .m)) 10 (now (a .out)) (room p) })
+returns c = let p = c .before .before in next-byte _ _ _ _ (p .put-members .ensures) (room p) 10
 
 pub put-last-spec : {M : Type 1} → statement M
 put-last-spec =

@@ -6,7 +6,7 @@ use mathlib.Core.Path.{refl}
 use denote.Ref.{now}
 use lib.ListN.{length}
 use Rattle.decimal.specs.Decimal.{numeral}
-use Rattle.decimal.proofs.Place.{front-byte}
+use Rattle.decimal.proofs.Place.{within-byte, next-byte}
 use Rattle.members.proofs.Written.{id-out, id-last, id-more, id-in, length-more}
 use Rattle.members.proofs.put_id.Statement.{statement}
 use Rattle.members.proofs.put_id.Tie as tie
@@ -42,14 +42,10 @@ room c =
     omega (arith, length-more (a .i) (a .q) (e .if1 .left) (c .if2 .left), e .before .before .pre)
 
 slice-write-out : tie.Need-slice-write-out
-slice-write-out c =
-    let p = c .before .before .before in
-    omega (arith, room c, p .put-number .ensures .count, p .put-number .kept .0)
+slice-write-out c = let p = c .before .before .before in within-byte _ _ _ _ (p .put-number .ensures) (room c)
 
 add-result : tie.Need-add-result
-add-result c =
-    let p = c .before .before .before in
-    omega (arith, room c, p .put-number .ensures .count)
+add-result c = let p = c .before .before .before in omega (arith, room c, p .put-number .ensures .count)
 
 same-length-2 : tie.Need-same-length-2
 same-length-2 c = search needs
@@ -59,11 +55,7 @@ returns-3 c =
     let p = c .before .before .before in
     let e = p .before .before in
     let a = e .before .before .args in
-    rw (p .put-number .ensures .count, p .put-number .ensures .bytes)
-    (record {
-      count = length-more (a .i) (a .q) (e .if1 .left) (c .if2 .left);
-      bytes = rw (id-more (a .i) (a .q) (e .if1 .left) (c .if2 .left)) (front-byte (numeral (a .i)) 44 (now (a .out)) (room c));
-    })
+    rw (id-more (a .i) (a .q) (e .if1 .left) (c .if2 .left)) (next-byte _ _ _ _ (p .put-number .ensures) (room c) 44)
 
 pub put-id-spec : {M : Type 1} → statement M
 put-id-spec =
