@@ -9,6 +9,10 @@ use Rattle.answers.specs.declared.Fault.{Fault}
 use Rattle.answers.specs.declared.Fault.the-variants as Fx
 use Rattle.answers.specs.declared.Checked.{Checked}
 use Rattle.answers.specs.declared.Checked.the-variants as Cx
+use Rattle.answers.specs.declared.Read.{Read}
+use Rattle.answers.specs.declared.Read.the-variants as Rx
+use Rattle.answers.specs.declared.Wrote.{Wrote}
+use Rattle.answers.specs.declared.Wrote.the-variants as Wx
 use Rattle.answers.specs.declared.Judged.{Judged}
 use Rattle.answers.specs.declared.Judged.the-variants as Jx
 use Rattle.answers.specs.declared.Greatest.{Greatest}
@@ -19,7 +23,7 @@ use Rattle.answers.specs.declared.Listed.{Listed}
 use Rattle.answers.specs.declared.Listed.the-variants as Lx
 use Rattle.answers.specs.declared.Intact.{Intact}
 use Rattle.answers.specs.declared.Intact.the-variants as Ix
-use Rattle.answers.specs.Said.{faultSays, checkedSays, judgedSays, greatestSays, verdictSays, listedSays, intactSays}
+use Rattle.answers.specs.Said.{faultSays, checkedSays, readSays, wroteSays, judgedSays, greatestSays, verdictSays, listedSays, intactSays}
 
 module _ {A : Type 0} where
   abbrev pick : Bool → A → A → A
@@ -27,8 +31,8 @@ module _ {A : Type 0} where
   pick false x y = y
 
   -- what can be read back is known by what it says
-  pub read-back : (says : A → Reply) (back : Reply → A) → ((x : A) → back (says x) ≡ x) → (x y : A) → says x ≡ says y → x ≡ y
-  read-back says back f x y e = sym (f x) ∙ ap back e ∙ f y
+  pub told-back : (says : A → Reply) (back : Reply → A) → ((x : A) → back (says x) ≡ x) → (x y : A) → says x ≡ says y → x ≡ y
+  told-back says back f x y e = sym (f x) ∙ ap back e ∙ f y
 
 abbrev faultFrom : Reply → Fault
 faultFrom r =
@@ -62,7 +66,7 @@ module _ {A : Type 0} (other : Reply → A) (bad : Fault → A) where
   bad-back (Fx.Entries p) = refl
 
 pub fault-exact : (x y : Fault) → faultSays x ≡ faultSays y → x ≡ y
-fault-exact = read-back faultSays faultFrom fault-back
+fault-exact = told-back faultSays faultFrom fault-back
 
 -- ---- each answer, read back by its number and its fields
 abbrev soundFrom : Reply → Checked
@@ -74,7 +78,33 @@ checked-back (Cx.Sound n r) = refl
 checked-back (Cx.Bad f) = bad-back soundFrom Cx.Bad f
 
 pub checked-exact : (x y : Checked) → checkedSays x ≡ checkedSays y → x ≡ y
-checked-exact = read-back checkedSays (orFault soundFrom Cx.Bad) checked-back
+checked-exact = told-back checkedSays (orFault soundFrom Cx.Bad) checked-back
+
+abbrev readFrom : Reply → Read
+readFrom r =
+    pick (eqb (r .number) 0) (Rx.Words (value r Count)) (pick (eqb (r .number) 10) (Rx.Short (value r Count)) (Rx.Malformed (value r Place)))
+
+read-back : (x : Read) → orFault readFrom Rx.Bad (readSays x) ≡ x
+unfolding valueIn
+read-back (Rx.Words c) = refl
+read-back (Rx.Short c) = refl
+read-back (Rx.Malformed l) = refl
+read-back (Rx.Bad f) = bad-back readFrom Rx.Bad f
+
+pub read-exact : (x y : Read) → readSays x ≡ readSays y → x ≡ y
+read-exact = told-back readSays (orFault readFrom Rx.Bad) read-back
+
+abbrev wroteFrom : Reply → Wrote
+wroteFrom r = pick (eqb (r .number) 0) (Wx.Bytes (value r Count)) (Wx.Short (value r Count))
+
+wrote-back : (x : Wrote) → orFault wroteFrom Wx.Bad (wroteSays x) ≡ x
+unfolding valueIn
+wrote-back (Wx.Bytes c) = refl
+wrote-back (Wx.Short c) = refl
+wrote-back (Wx.Bad f) = bad-back wroteFrom Wx.Bad f
+
+pub wrote-exact : (x y : Wrote) → wroteSays x ≡ wroteSays y → x ≡ y
+wrote-exact = told-back wroteSays (orFault wroteFrom Wx.Bad) wrote-back
 
 abbrev judgedFrom : Reply → Judged
 judgedFrom r = pick (eqb (r .number) 8) Jx.Outside (pick (eqb (value r Answer) 1) Jx.Yes Jx.No)
@@ -87,7 +117,7 @@ judged-back Jx.Outside = refl
 judged-back (Jx.Bad f) = bad-back judgedFrom Jx.Bad f
 
 pub judged-exact : (x y : Judged) → judgedSays x ≡ judgedSays y → x ≡ y
-judged-exact = read-back judgedSays (orFault judgedFrom Jx.Bad) judged-back
+judged-exact = told-back judgedSays (orFault judgedFrom Jx.Bad) judged-back
 
 abbrev greatestFrom : Reply → Greatest
 greatestFrom r = pick (eqb (r .number) 8) Gx.Outside (Gx.Is (value r Set) (value r Rounds))
@@ -99,7 +129,7 @@ greatest-back Gx.Outside = refl
 greatest-back (Gx.Bad f) = bad-back greatestFrom Gx.Bad f
 
 pub greatest-exact : (x y : Greatest) → greatestSays x ≡ greatestSays y → x ≡ y
-greatest-exact = read-back greatestSays (orFault greatestFrom Gx.Bad) greatest-back
+greatest-exact = told-back greatestSays (orFault greatestFrom Gx.Bad) greatest-back
 
 abbrev verdictFrom : Reply → Verdict
 verdictFrom r =
@@ -117,7 +147,7 @@ verdict-back Vx.Outside = refl
 verdict-back (Vx.Bad f) = bad-back verdictFrom Vx.Bad f
 
 pub verdict-exact : (x y : Verdict) → verdictSays x ≡ verdictSays y → x ≡ y
-verdict-exact = read-back verdictSays (orFault verdictFrom Vx.Bad) verdict-back
+verdict-exact = told-back verdictSays (orFault verdictFrom Vx.Bad) verdict-back
 
 abbrev listedFrom : Reply → Listed
 listedFrom r =
@@ -133,7 +163,7 @@ listed-back Lx.Unsplit = refl
 listed-back (Lx.Bad f) = bad-back listedFrom Lx.Bad f
 
 pub listed-exact : (x y : Listed) → listedSays x ≡ listedSays y → x ≡ y
-listed-exact = read-back listedSays (orFault listedFrom Lx.Bad) listed-back
+listed-exact = told-back listedSays (orFault listedFrom Lx.Bad) listed-back
 
 abbrev intactFrom : Reply → Intact
 intactFrom r =
@@ -151,4 +181,4 @@ intact-back Ix.Outside = refl
 intact-back (Ix.Bad f) = bad-back intactFrom Ix.Bad f
 
 pub intact-exact : (x y : Intact) → intactSays x ≡ intactSays y → x ≡ y
-intact-exact = read-back intactSays (orFault intactFrom Ix.Bad) intact-back
+intact-exact = told-back intactSays (orFault intactFrom Ix.Bad) intact-back

@@ -6,6 +6,10 @@ use Rattle.answers.specs.declared.Fault.{Fault}
 use Rattle.answers.specs.declared.Fault.the-variants as Fx
 use Rattle.answers.specs.declared.Checked.{Checked}
 use Rattle.answers.specs.declared.Checked.the-variants as Cx
+use Rattle.answers.specs.declared.Read.{Read}
+use Rattle.answers.specs.declared.Read.the-variants as Rx
+use Rattle.answers.specs.declared.Wrote.{Wrote}
+use Rattle.answers.specs.declared.Wrote.the-variants as Wx
 use Rattle.answers.specs.declared.Judged.{Judged}
 use Rattle.answers.specs.declared.Judged.the-variants as Jx
 use Rattle.answers.specs.declared.Greatest.{Greatest}
@@ -29,6 +33,17 @@ faultSays (Fx.Entries p) = reply 7 (Place is p ∷ [])
 abbrev pub checkedSays : Checked → Reply
 checkedSays (Cx.Sound nodes records) = reply 0 (Nodes is nodes ∷ Records is records ∷ [])
 checkedSays (Cx.Bad f) = faultSays f
+
+abbrev pub readSays : Read → Reply
+readSays (Rx.Words count) = reply 0 (Count is count ∷ [])
+readSays (Rx.Short count) = reply 10 (Count is count ∷ [])
+readSays (Rx.Malformed line) = reply 12 (Place is line ∷ [])
+readSays (Rx.Bad f) = faultSays f
+
+abbrev pub wroteSays : Wrote → Reply
+wroteSays (Wx.Bytes count) = reply 0 (Count is count ∷ [])
+wroteSays (Wx.Short count) = reply 10 (Count is count ∷ [])
+wroteSays (Wx.Bad f) = faultSays f
 
 abbrev pub judgedSays : Judged → Reply
 judgedSays Jx.Yes = reply 0 (Answer is 1 ∷ [])

@@ -25,6 +25,21 @@ pub enum Checked {
     Bad(Fault),
 }
 
+// A text is read into a lent list of words.
+pub enum Read {
+    Words { count: u64 },
+    Short { count: u64 },
+    Malformed { line: u64 },
+    Bad(Fault),
+}
+
+// A table is written as a text into a lent buffer of bytes.
+pub enum Wrote {
+    Bytes { count: u64 },
+    Short { count: u64 },
+    Bad(Fault),
+}
+
 // A question answered by yes or no: is this a quorum; does this set block this node.
 pub enum Judged {
     Yes,
