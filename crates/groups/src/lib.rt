@@ -1,0 +1,1 @@
+// Grouping the nodes of a table whose quorum sets are alike, once for a question.
