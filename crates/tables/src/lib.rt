@@ -1,6 +1,6 @@
 // The packed table (document 01, 'The packed table'): reading a record. Records are counted from 0.
 ghost use mathlib.Core.Path.{_≡_};
-ghost use Prim.Native.Nat.{ℕ, _+_, _*_, _<_, _^_};
+ghost use Prim.Native.Nat.{_+_, _*_, _<_, _^_};
 ghost use lib.ListN.{length};
 ghost use Rattle.meanings.specs.Table.{control as controlOf, level as levelOf, threshold as thresholdOf, members as membersOf};
 
