@@ -67,11 +67,18 @@ fault-number (Fx.Threshold p) = omega arith
 fault-number (Fx.Member p) = omega arith
 fault-number (Fx.Entries p) = omega arith
 
-pub handed-on : (f : Fault) (c d : Check) (n k : ℕ) (x : Reply) → faultSays f ≡ onCheck c (counted n k) → faultSays f ≡ onCheck (orElse c d) x
-handed-on f sound d n k x e =
+no-count : {A : Type 0} (f : Fault) (n k : ℕ) → faultSays f ≡ counted n k → A
+no-count f n k e =
     let z : faultSays f .number ≡ 0 = ap (λ (y : Reply). y .number) e in
     let p = fault-number f in
     absurd (omega arith)
+
+pub fault-stays : (f : Fault) (c : Check) (n k : ℕ) (x : Reply) → faultSays f ≡ onCheck c (counted n k) → faultSays f ≡ onCheck c x
+fault-stays f sound n k x e = no-count f n k e
+fault-stays f (fault y p) n k x e = e
+
+pub handed-on : (f : Fault) (c d : Check) (n k : ℕ) (x : Reply) → faultSays f ≡ onCheck c (counted n k) → faultSays f ≡ onCheck (orElse c d) x
+handed-on f sound d n k x e = no-count f n k e
 handed-on f (fault y p) d n k x e = e
 
 -- ---- a walk whose answer at each record is that record's fault, or what is counted up to its end; `all` is what it looks for
