@@ -61,9 +61,9 @@ module _ (t plan : List ℕ) (with present : ℕ) where
     of-in (suc g) l i p =
         ⊎-elim (of-in g (omega arith) i)
         (λ q.
-          let e = staying-case (satisfies 3 t with (recordAt plan g)) (present ∩ nodesAt plan g) i q in
-          let m = ∩-out present (nodesAt plan g) i (e .1) in
-          (m .0, w .alike g i with l (m .1) ∙ e .0))
+        let e = staying-case (satisfies 3 t with (recordAt plan g)) (present ∩ nodesAt plan g) i q in
+        let m = ∩-out present (nodesAt plan g) i (e .1) in
+        (m .0, w .alike g i with l (m .1) ∙ e .0))
         (∪-cases (stayingOf t plan with present g) (staying t plan with present g) i p)
 
     -- whoever is present and satisfied stays with its group
@@ -75,10 +75,10 @@ module _ (t plan : List ℕ) (with present : ℕ) where
         ⊎-elim
         (λ (x : g < h). ∪-left (stayingOf t plan with present h) (staying t plan with present h) i (ih x))
         (λ (x : h ≤ g).
-          let same : g ≡ h = omega arith in
-          ∪-right (stayingOf t plan with present h) (staying t plan with present h) i
-          (subst (λ (y : ℕ). In (staying t plan with present y) i) same
-            (subst (λ (y : ℕ). In y i) (sym (staying-true g (sym (w .alike g i with (omega arith) m) ∙ e))) (∩-in present (nodesAt plan g) i p m))))
+        let same : g ≡ h = omega arith in
+        ∪-right (stayingOf t plan with present h) (staying t plan with present h) i
+        (subst (λ (y : ℕ). In (staying t plan with present y) i) same
+        (subst (λ (y : ℕ). In y i) (sym (staying-true g (sym (w .alike g i with (omega arith) m) ∙ e))) (∩-in present (nodesAt plan g) i p m))))
         (⊎-elim (λ x. inr x) (λ x. inl x) (le-or-lt h g))
 
 -- those who stay are those whom a round leaves
@@ -88,9 +88,9 @@ of-round t plan groups d present w h =
     sub-antisym n (stayingOf t plan (present ∪ d) present groups) (round n (satisfied t) d present) (of-lt t plan (present ∪ d) present n h groups) (round-lt n (satisfied t) d present)
     (λ i p. let q = inside i p in round-in n (satisfied t) d present i (has-below n present i h (q .0)) (q .0) (q .1))
     (λ i p.
-      let q = round-out n (satisfied t) d present i p in
-      let c = w .covers i (has-below n present i h (q .0)) in
-      of-out t plan (present ∪ d) present groups w (c .0) groups i (c .1) (le-refl groups) (c .2) (q .0) (q .1))
+    let q = round-out n (satisfied t) d present i p in
+    let c = w .covers i (has-below n present i h (q .0)) in
+    of-out t plan (present ∪ d) present groups w (c .0) groups i (c .1) (le-refl groups) (c .2) (q .0) (q .1))
   where
     n : ℕ
     n = nodes t
@@ -156,5 +156,5 @@ module _ (t : List ℕ) (d u : ℕ) where
           somebody = b;
           set = ap (leftFrom n s d n) k ∙ sym (left-goes-on n s d present (w .below) (w .somebody) l) ∙ w .set;
           number = omega arith;
-          few = omega arith
+          few = omega arith;
         }

@@ -1,3 +1,6 @@
+-- A group with nobody present, one whose set is satisfied, and one whose set is not.
+use mathlib.Core.Path.{sym, _∙_}
+use Rattle.rounds.proofs.Laws.{staying-true, staying-false, staying-none}
 use borrow.Author.Needs.{needs}
 use Rattle.rounds.proofs.stay.Statement.{statement}
 use Rattle.rounds.proofs.stay.Tie as tie
@@ -19,8 +22,8 @@ shared-slice-read-here c = search needs
 
 returns : tie.Need-returns
 returns c =
-    let s = c .before .before .before in
-    ?r
+    let s = c .before .before .before .before in
+    sym (staying-none (s .args .t .now) (s .args .plan .now) (s .args .with) (s .args .present) (s .args .g) (c .if1 .taken))
 
 mul-r : tie.Need-mul-r
 mul-r c = search needs
@@ -32,13 +35,19 @@ shared-slice-read-r : tie.Need-shared-slice-read-r
 shared-slice-read-r c = search needs
 
 satisfies-requires : tie.Need-satisfies-requires
-satisfies-requires c κs = ?
+satisfies-requires c κs =
+    let s = c .before .before .before .before .before in
+    (s .pre .0 .checked, s .pre .0 .inside (s .args .g) (s .pre .1))
 
 returns-2 : tie.Need-returns-2
-returns-2 c = ?
+returns-2 c =
+    let s = c .before .before .before .before .before .before .before in
+    sym (staying-true (s .args .t .now) (s .args .plan .now) (s .args .with) (s .args .present) (s .args .g) (sym (c .before .satisfies .ensures) ∙ c .if2 .taken))
 
 returns-3 : tie.Need-returns-3
-returns-3 c = ?
+returns-3 c =
+    let s = c .before .before .before .before .before .before .before in
+    sym (staying-false (s .args .t .now) (s .args .plan .now) (s .args .with) (s .args .present) (s .args .g) (sym (c .before .satisfies .ensures) ∙ c .if2 .left))
 
 pub stay-spec : {M : Type 1} → statement M
 stay-spec =
