@@ -1,7 +1,7 @@
 -- Those who stay of all groups together are those whom a round leaves: a node present is in some group, and judging that group's set is
 -- judging the node's own.
 use mathlib.Core.Path.{_≡_, refl, sym, ap, _∙_, subst}
-use mathlib.Core.Bool.{Bool, true, false, _&&_}
+use mathlib.Core.Bool.{Bool, true, false, not, _&&_}
 use mathlib.Core.List.{List}
 use mathlib.Core.Logic.{_⊎_, inl, inr, ⊎-elim}
 use Prim.Native.Nat.{ℕ, zero, suc, _+_, _*_, _^_, _≤_, _<_}
@@ -10,13 +10,15 @@ use native.Mathlib.Numerals.{add-one}
 use native.Mathlib.Omega.{arith}
 use borrow.Author.Tests.{eqb-true, eqb-false, eq-eqb, ne-eqb}
 use lib.Pow.{pow-pos}
-use Rattle.sets.specs.Sets.{has, nobody, _∪_, _∩_, _∖_, empty, size}
-use Rattle.sets.proofs.Bools.{either, clash}
-use Rattle.sets.proofs.Members.{In, Sub, has-below, ∪-left, ∪-right, ∪-cases, ∪-lt, ∩-in, ∩-out, ∩-lt, ∖-lt, none-in, sub-antisym}
+use Rattle.sets.specs.Sets.{has, nobody, _∪_, _∩_, _∖_, empty, within, size, lowest, each}
+use Rattle.sets.proofs.Bools.{either, clash, fails, and-both, and-left-fails}
+use Rattle.sets.proofs.Members.{In, Sub, has-below, ∪-left, ∪-right, ∪-cases, ∪-lt, ∩-in, ∩-out, ∩-lt, ∖-lt, none-in, sub-antisym, sub-within, each-at, at-each}
+use Rattle.sets.proofs.Lowest.{lowest-in}
 use Rattle.sets.proofs.Size.{le-or-lt, size-le}
 use Rattle.meanings.specs.Table.{nodes, satisfies, satisfied}
-use Rattle.meanings.specs.Quorums.{greatest}
+use Rattle.meanings.specs.Quorums.{ground, quorum, greatest}
 use Rattle.meanings.specs.Rounds.{round, lastRound, roundsFrom, leftFrom, rounds, survivors}
+use Rattle.theory.proofs.Quorum.{quorum-is, ground-in}
 use Rattle.theory.proofs.Rounds.{round-lt, round-in, round-out, round-less, is-last, is-not-last, left-stops, left-goes-on, rounds-stop, rounds-go-on, survivors-greatest}
 use Rattle.judge.proofs.Monotone.{satisfied-monotone}
 use Rattle.groups.specs.Groups.{recordAt, nodesAt, Grouped, whereTrue, staying, stayingOf}
@@ -158,3 +160,54 @@ module _ (t : List ℕ) (d u : ℕ) where
           number = omega arith;
           few = omega arith;
         }
+
+-- ---- a quorum
+module _ (t plan : List ℕ) (groups with c : ℕ) (w : Grouped t plan groups) (h : c < 2 ^ nodes t) where
+  -- each group so far stays as a whole
+  abbrev pub Whole : ℕ → Type 0
+  Whole g = (j : ℕ) → j < g → staying t plan with c j ≡ c ∩ nodesAt plan j
+
+  pub all-whole : Whole groups → each (nodes t) c (λ v. satisfied t with v) ≡ true
+  all-whole f =
+      at-each (nodes t) c (λ v. satisfied t with v) h (λ i p.
+      let k = w .covers i (has-below (nodes t) c i h p) in
+      let m : In (staying t plan with c (k .0)) i = subst (λ (x : ℕ). In x i) (sym (f (k .0) (k .1))) (∩-in c (nodesAt plan (k .0)) i p (k .2)) in
+      w .alike (k .0) i with (k .1) (k .2) ∙ kept (k .0) i m)
+    where
+      kept : (g i : ℕ) → In (staying t plan with c g) i → satisfies 3 t with (recordAt plan g) ≡ true
+      kept g i m =
+          ⊎-elim (λ e. e) (λ e. none-in (staying t plan with c g) i (staying-false t plan with c g e) m) (either (satisfies 3 t with (recordAt plan g)))
+
+  pub not-whole : (g : ℕ) → g < groups → ¬ (staying t plan with c g ≡ c ∩ nodesAt plan g) → each (nodes t) c (λ v. satisfied t with v) ≡ false
+  not-whole g l z =
+      fails (each (nodes t) c (λ v. satisfied t with v)) (λ e.
+      ⊎-elim
+      (λ x. z (staying-true t plan with c g x))
+      (λ x.
+      let some : ¬ (c ∩ nodesAt plan g ≡ nobody) = λ y. z (staying-false t plan with c g x ∙ sym y) in
+      let i = lowest (nodes t) (c ∩ nodesAt plan g) in
+      let m = lowest-in (nodes t) (c ∩ nodesAt plan g) (∩-lt (nodes t) c (nodesAt plan g) h) some in
+      let q = ∩-out c (nodesAt plan g) i m in
+      clash (satisfied t with i) (each-at (nodes t) c (λ v. satisfied t with v) e i (q .0)) (w .alike g i with l (q .1) ∙ x))
+      (either (satisfies 3 t with (recordAt plan g))))
+
+-- the tests of a quorum, one after another
+module _ (n : ℕ) (s : ℕ → ℕ → Bool) (d c : ℕ) where
+  pub no-nodes : c ≡ nobody → false ≡ quorum n s d c
+  unfolding quorum
+  no-nodes e = sym (and-left-fails (not (empty c) && within c (ground n s d)) (each n c (λ v. s (c ∪ d) v))
+      (and-left-fails (not (empty c)) (within c (ground n s d)) (ap not (eq-eqb c 0 e))))
+
+  pub counted-out : ¬ (c ∩ d ≡ nobody) → c < 2 ^ n → false ≡ quorum n s d c
+  counted-out z h =
+      sym (fails (quorum n s d c) (λ e.
+      z (sub-antisym n (c ∩ d) nobody (∩-lt n c d h) (pow-pos n)
+      (λ i p. let q = ∩-out c d i p in clash (has d i) (q .1) (quorum-is n s d c e .apart i (q .0)))
+      (λ i p. none-in nobody i refl p))))
+
+  pub as-settled : ¬ (c ≡ nobody) → c ∩ d ≡ nobody → c < 2 ^ n → each n c (λ v. s (c ∪ d) v) ≡ quorum n s d c
+  unfolding quorum
+  as-settled z e h =
+      sym (ap (λ (b : Bool). b && each n c (λ v. s (c ∪ d) v))
+      (and-both (not (empty c)) (within c (ground n s d)) (ap not (ne-eqb c 0 z))
+      (sub-within n c (ground n s d) h (λ i p. ground-in n s d i (has-below n c i h p) (fails (has d i) (λ x. none-in (c ∩ d) i e (∩-in c d i p x)))))))

@@ -2,6 +2,7 @@
 // the nodes counted out added, do not satisfy.
 ghost use mathlib.Core.Path.{_≡_};
 ghost use Prim.Native.Nat.{ℕ, _<_, _^_};
+ghost use Rattle.sets.specs.Sets.{each};
 ghost use Rattle.meanings.specs.Table.{nodes, satisfied};
 ghost use Rattle.meanings.specs.Quorums.{greatest, quorum as quorumIs};
 ghost use Rattle.meanings.specs.Rounds.{rounds as roundsOf};
@@ -59,4 +60,33 @@ pub fn survivors(t: &[u64], plan: &[u64], groups: usize, d: u64, u: u64) -> Left
         present = keep;
         count += 1;
     }
+}
+
+// Whether those of c are all satisfied by `with`.
+fn settled(t: &[u64], plan: &[u64], groups: usize, with: u64, c: u64) -> bool
+    requires { ⌜ Ground (now t) (now plan) groups c ⌝ }
+    ensures { λ o. ⌜ o ≡ each (nodes (now (t .entry))) c (λ v. satisfied (now (t .entry)) with v) ⌝ }
+{
+    let mut g = 0;
+    while g < groups {
+        if stay(t, plan, groups, with, c, g) != c & plan[2 * g + 1] {
+            return false;
+        }
+        g += 1;
+    }
+    true
+}
+
+// Whether c is a quorum with d counted out.
+pub fn quorum(t: &[u64], plan: &[u64], groups: usize, d: u64, c: u64) -> bool
+    requires { ⌜ Ground (now t) (now plan) groups c ⌝ }
+    ensures { λ o. ⌜ o ≡ quorumIs (nodes (now (t .entry))) (satisfied (now (t .entry))) d c ⌝ }
+{
+    if c == 0 {
+        return false;
+    }
+    if c & d != 0 {
+        return false;
+    }
+    settled(t, plan, groups, c | d, c)
 }
