@@ -1,3 +1,4 @@
 pub mod Looks
 pub mod Allowance
 pub mod Split
+pub mod Meaning

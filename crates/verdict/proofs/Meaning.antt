@@ -1,0 +1,160 @@
+-- What an answer of the verdict means, for a table whose satisfaction is monotone, as every table's is: yes exactly when all quorums of the
+-- rest intersect, no with two that do not, and stopped short exactly when the tree's walk is longer than the allowance.
+use mathlib.Core.Path.{_≡_, refl, sym, ap, _∙_, subst}
+use mathlib.Core.Bool.{Bool, true, false, cond}
+use mathlib.Core.List.{List, [], _∷_}
+use Prim.Native.Nat.{ℕ, suc, _+_, _^_, _≤_, _<_}
+use native.Mathlib.Nat.{zero-add}
+use native.Mathlib.Omega.{arith}
+use mathlib.Core.Logic.{⊎-elim}
+use Rattle.sets.proofs.Bools.{clash}
+use Rattle.sets.proofs.Size.{le-or-lt}
+use borrow.Author.Tests.{le-leb, lt-leb}
+use lib.Dec.{leb}
+use Rattle.sets.specs.Sets.{size}
+use Rattle.meanings.specs.Table.{nodes, satisfied}
+use Rattle.meanings.specs.Quorums.{ground, intersecting, disjointQuorums}
+use Rattle.meanings.specs.Trees.{Pair, Walk, hit, missed, stuck, verdictTree, walk}
+use Rattle.meanings.specs.Questions.{verdictSays as replySays}
+use Rattle.theory.proofs.Verdict.{Sound, Decided, all-meet, two-apart, decided, sound-disjoint}
+use Rattle.judge.proofs.Monotone.{satisfied-monotone}
+use Rattle.answers.specs.Said.{verdictSays}
+use Rattle.answers.specs.declared.Verdict.{Verdict}
+use Rattle.answers.specs.declared.Verdict.the-variants.{Yes, No, Spent, Unsplit, Outside, Bad}
+use Rattle.answers.proofs.Exact.{verdict-exact}
+use Rattle.verdict.specs.Search.{within}
+use Rattle.verdict.specs.Promise.{VerdictPromise}
+use Rattle.verdict.proofs.Allowance.{count}
+
+-- the answer without an allowance
+abbrev pub plain : Walk Pair → Verdict
+plain (missed k) = Yes k
+plain (hit p k) = No (p .first) (p .second) k
+plain (stuck k) = Unsplit
+
+-- what an allowance makes of it: in time, and too late
+pub in-time : (allowance : ℕ) (w : Walk Pair) → count w ≤ allowance → within allowance 0 w ≡ plain w
+in-time allowance (missed k) l = rw (zero-add k, le-leb k allowance l)
+in-time allowance (hit p k) l = rw (zero-add k, le-leb k allowance l)
+in-time allowance (stuck k) l = rw (zero-add k, le-leb k allowance l)
+
+pub too-late : (allowance : ℕ) (w : Walk Pair) → allowance < count w → within allowance 0 w ≡ Spent allowance
+too-late allowance (missed k) l = rw (zero-add k, lt-leb k allowance l)
+too-late allowance (hit p k) l = rw (zero-add k, lt-leb k allowance l)
+too-late allowance (stuck k) l = rw (zero-add k, lt-leb k allowance l)
+
+-- the enum says what the paper's reply says
+pub says-within : (allowance : ℕ) (w : Walk Pair) → verdictSays (within allowance 0 w) ≡ replySays allowance w
+says-within allowance w = ⊎-elim early late (le-or-lt (count w) allowance)
+  where
+    early : count w ≤ allowance → verdictSays (within allowance 0 w) ≡ replySays allowance w
+    early l = ap verdictSays (in-time allowance w l) ∙ go w l
+      where
+        go : (w : Walk Pair) → count w ≤ allowance → verdictSays (plain w) ≡ replySays allowance w
+        go (missed k) m = rw (le-leb k allowance m)
+        go (hit p k) m = rw (le-leb k allowance m)
+        go (stuck k) m = rw (le-leb k allowance m)
+
+    late : allowance < count w → verdictSays (within allowance 0 w) ≡ replySays allowance w
+    late l = ap verdictSays (too-late allowance w l) ∙ go w l
+      where
+        go : (w : Walk Pair) → allowance < count w → verdictSays (Spent allowance) ≡ replySays allowance w
+        go (missed k) m = rw (lt-leb k allowance m)
+        go (hit p k) m = rw (lt-leb k allowance m)
+        go (stuck k) m = rw (lt-leb k allowance m)
+
+-- the kinds of answers
+abbrev kind : Verdict → ℕ
+kind (Yes k) = 0
+kind (No a b k) = 1
+kind (Spent k) = 2
+kind Unsplit = 3
+kind Outside = 4
+kind (Bad f) = 5
+
+plain-kept : (w : Walk Pair) → kind (plain w) ≡ 2 → ⊥
+plain-kept (missed k) e = omega arith
+plain-kept (hit p k) e = omega arith
+plain-kept (stuck k) e = omega arith
+
+-- an answer that is not Spent is the answer without an allowance
+answered : (allowance : ℕ) (w : Walk Pair) (v : Verdict) → within allowance 0 w ≡ v → ¬ (kind v ≡ 2) → plain w ≡ v
+answered allowance w v e f =
+    ⊎-elim (λ l. sym (in-time allowance w l) ∙ e) (λ l. absurd (f (sym (ap kind (sym (too-late allowance w l) ∙ e))))) (le-or-lt (count w) allowance)
+
+-- A larger allowance never alters a yes or a pair once given.
+pub larger-allowance : (a b : ℕ) (w : Walk Pair) (v : Verdict) → a ≤ b → within a 0 w ≡ v → ¬ (kind v ≡ 2) → within b 0 w ≡ v
+larger-allowance a b w v l e f =
+    ⊎-elim (λ (m : count w ≤ a). in-time b w (omega arith) ∙ answered a w v e f)
+    (λ m. absurd (f (sym (ap kind (sym (too-late a w m) ∙ e))))) (le-or-lt (count w) a)
+
+-- It stops short exactly when the walk is longer than the allowance.
+pub spent-exactly : (a : ℕ) (w : Walk Pair) → (within a 0 w ≡ Spent a → a < count w) × (a < count w → within a 0 w ≡ Spent a)
+spent-exactly a w =
+    ((λ e. ⊎-elim (λ l. absurd (plain-kept w (ap kind (sym (in-time a w l) ∙ e)))) (λ l. l) (le-or-lt (count w) a)), too-late a w)
+
+module _ (t : List ℕ) (d allowance : ℕ) where
+  abbrev n : ℕ
+  n = nodes t
+
+  abbrev s : ℕ → ℕ → Bool
+  s = satisfied t
+
+  abbrev answer : Verdict
+  answer = within allowance 0 (walk (verdictTree n s d))
+
+  pub yes-means : (k : ℕ) → answer ≡ Yes k → intersecting n s d ≡ true
+  yes-means k e = go (decided n s d (satisfied-monotone t))
+    where
+      go : Decided n s d (satisfied-monotone t) → intersecting n s d ≡ true
+      go (all-meet j w i few) = i
+      go (two-apart x j w z i few) =
+          let a : No (x .first) (x .second) j ≡ Yes k = answered allowance (hit x j) (Yes k) (sym (ap (within allowance 0) w) ∙ e) (λ q. omega arith) in
+          let b : _≡_ {A = ℕ} 1 0 = ap kind a in
+          let c : ⊥ = omega arith in
+          absurd c
+
+  pub no-means : (p q k : ℕ) → answer ≡ No p q k → (disjointQuorums n s d p q ≡ true) × (intersecting n s d ≡ false)
+  no-means p q k e = go (decided n s d (satisfied-monotone t))
+    where
+      go : Decided n s d (satisfied-monotone t) → (disjointQuorums n s d p q ≡ true) × (intersecting n s d ≡ false)
+      go (all-meet j w i few) =
+          let a : Yes j ≡ No p q k = answered allowance (missed j) (No p q k) (sym (ap (within allowance 0) w) ∙ e) (λ q. omega arith) in
+          let b : _≡_ {A = ℕ} 0 1 = ap kind a in
+          let c : ⊥ = omega arith in
+          absurd c
+      go (two-apart x j w z i few) =
+          let a : No (x .first) (x .second) j ≡ No p q k = answered allowance (hit x j) (No p q k) (sym (ap (within allowance 0) w) ∙ e) (λ q. omega arith) in
+          let f : x .first ≡ p = cc in
+          let g : x .second ≡ q = cc in (
+            subst (λ (m : ℕ). disjointQuorums n s d p m ≡ true) g
+                (subst (λ (m : ℕ). disjointQuorums n s d m (x .second) ≡ true) f (sound-disjoint n s d (satisfied-monotone t) x z)),
+            i,
+          )
+
+  -- with allowance enough, a yes where all quorums intersect and a no where they do not
+  pub says-yes : count (walk (verdictTree n s d)) ≤ allowance → intersecting n s d ≡ true → (k : ℕ) × (answer ≡ Yes k)
+  says-yes l e = go (decided n s d (satisfied-monotone t))
+    where
+      go : Decided n s d (satisfied-monotone t) → (k : ℕ) × (answer ≡ Yes k)
+      go (all-meet j w i few) = (j, in-time allowance (walk (verdictTree n s d)) l ∙ ap plain w)
+      go (two-apart x j w z i few) = clash (intersecting n s d) e i
+
+  pub says-no : count (walk (verdictTree n s d)) ≤ allowance → intersecting n s d ≡ false → (p q k : ℕ) × (answer ≡ No p q k)
+  says-no l e = go (decided n s d (satisfied-monotone t))
+    where
+      go : Decided n s d (satisfied-monotone t) → (p q k : ℕ) × (answer ≡ No p q k)
+      go (all-meet j w i few) = clash (intersecting n s d) i e
+      go (two-apart x j w z i few) = (x .first, x .second, j, in-time allowance (walk (verdictTree n s d)) l ∙ ap plain w)
+
+  -- No tree over a nodes has more than 2 ^ (a + 1) - 1 visits; number 13 never comes.
+  pub visits-few : suc (count (walk (verdictTree n s d))) ≤ 2 ^ suc (size n (ground n s d))
+  visits-few = go (decided n s d (satisfied-monotone t))
+    where
+      go : Decided n s d (satisfied-monotone t) → suc (count (walk (verdictTree n s d))) ≤ 2 ^ suc (size n (ground n s d))
+      go (all-meet j w i few) = subst (λ (x : Walk Pair). suc (count x) ≤ 2 ^ suc (size n (ground n s d))) (sym w) few
+      go (two-apart x j w z i few) = subst (λ (x : Walk Pair). suc (count x) ≤ 2 ^ suc (size n (ground n s d))) (sym w) few
+
+-- Two answers that both fit the promise are equal.
+pub verdict-unique : (t : List ℕ) (d allowance : ℕ) (x y : Verdict) → VerdictPromise t d allowance x → VerdictPromise t d allowance y → x ≡ y
+verdict-unique t d allowance x y p q = verdict-exact x y (p .told ∙ sym (q .told))
