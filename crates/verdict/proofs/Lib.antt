@@ -2,3 +2,4 @@ pub mod Looks
 pub mod Allowance
 pub mod Split
 pub mod Meaning
+pub mod Root

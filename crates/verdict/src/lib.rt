@@ -3,8 +3,9 @@
 ghost use mathlib.Core.Path.{_≡_};
 ghost use Prim.Native.Nat.{ℕ};
 ghost use Rattle.verdict.specs.Search.{Visiting, Looked, within, treeOf};
-ghost use Rattle.meanings.specs.Table.{nodes, satisfied};
-ghost use Rattle.meanings.specs.Trees.{walk};
+ghost use Rattle.meanings.specs.Table.{nodes as nodesOf, satisfied};
+ghost use Rattle.meanings.specs.Faults.{check, sound};
+ghost use Rattle.meanings.specs.Trees.{verdictTree, walk};
 use answers::Verdict;
 
 // What a visit comes to before it splits: a leaf; a quorum outside the chosen nodes, which are a quorum too; or the nodes that can be
@@ -101,4 +102,16 @@ pub fn search(
             )
         }
     }
+}
+
+// The whole search on a sound table: from no node chosen and the ground open.
+pub fn decide(t: &[u64], nodes: u64, out: u64, allowance: u64) -> Verdict
+    requires { ⌜ (check (now t) ≡ sound) × (nodes ≡ nodesOf (now t)) ⌝ }
+    ensures { λ o. ⌜ o ≡ within allowance 0 (walk (verdictTree (nodesOf (now (t .entry))) (satisfied (now (t .entry))) out)) ⌝ }
+{
+    let mut plan = [0u64; 128];
+    let groups = groups::group(t, &mut plan);
+    let ground = sets::without(sets::all(nodes), out);
+    let half = sets::count(ground) / 2;
+    search(t, &plan, groups, out, ground, half, 0, ground, allowance, 0)
 }
