@@ -1,26 +1,30 @@
 -- The two tests of the code are the two of the definition.
 use mathlib.Core.Path.{_≡_, sym, ap, ap₂, _∙_}
 use mathlib.Core.Bool.{Bool, false, _&&_}
+use native.Mathlib.Omega.{arith}
 use borrow.Author.Tests.{eq-eqb, ne-eqb}
 use lib.Dec.{eqb}
 use Rattle.sets.proofs.Bools.{and-left-fails}
-use Rattle.meanings.specs.Table.{control, members}
-use Rattle.tables.proofs.Sound.{record-in}
+use Rattle.meanings.specs.Table.{records, control, members}
 use Rattle.groups.specs.Alike.{sameRecord}
 use Rattle.groups.proofs.same_record.Statement.{statement}
 use Rattle.groups.proofs.same_record.Tie as tie
 
 control-requires : tie.Need-control-requires
-control-requires c κs = let s = c .before in record-in (s .args .t .now) (s .args .a) (s .pre .0)
+unfolding records
+control-requires c κs = omega arith
 
 control-requires-2 : tie.Need-control-requires-2
-control-requires-2 c κs = let s = c .before .before in record-in (s .args .t .now) (s .args .b) (s .pre .1)
+unfolding records
+control-requires-2 c κs = omega arith
 
 members-requires : tie.Need-members-requires
-members-requires c κs = let s = c .before .before .before .before in record-in (s .args .t .now) (s .args .a) (s .pre .0)
+unfolding records
+members-requires c κs = omega arith
 
 members-requires-2 : tie.Need-members-requires-2
-members-requires-2 c κs = let s = c .before .before .before .before .before in record-in (s .args .t .now) (s .args .b) (s .pre .1)
+unfolding records
+members-requires-2 c κs = omega arith
 
 returns : tie.Need-returns
 unfolding sameRecord
