@@ -14,7 +14,7 @@ use Rattle.sets.specs.Sets.{has, only, _∪_}
 use Rattle.sets.proofs.Bools.{either}
 use Rattle.sets.proofs.Size.{le-or-lt}
 use Rattle.sets.proofs.Members.{In, ∪-left, ∪-right, ∪-cases, only-in, only-out}
-use Rattle.meanings.specs.Table.{records, nodes, level, headOf, satisfies, satisfied}
+use Rattle.meanings.specs.Table.{records, nodes, headOf, satisfies, satisfied}
 use Rattle.meanings.specs.Faults.{check, sound}
 use Rattle.tables.proofs.Heads.{head-of, head-node}
 use Rattle.tables.proofs.Sound.{sound-table}
@@ -100,15 +100,11 @@ module _ {t plan : List ℕ} {groups r v : ℕ} (P : Placing t plan groups r v) 
   abbrev G : Grouping t plan groups v
   G = P .so-far
 
-  -- it is one of 64, and so there is room for a group of its own
   pub node-lt : v < 64
   node-lt =
       let h = head-node t r (P .inside) (P .opens) in
       let n = sound-table t (P .checked) .nodes-le in
       omega (arith, P .number)
-
-  pub group-fits : 2 * groups + 1 < length plan
-  group-fits = let l = node-lt in omega (arith, P .room, G .few)
 
   opened : (u w : ℕ) → In (only v) u → satisfied t w u ≡ satisfies 3 t w r
   unfolding satisfied
@@ -120,8 +116,7 @@ module _ {t plan : List ℕ} {groups r v : ℕ} (P : Placing t plan groups r v) 
       → Grouping t (set plan (2 * g + 1) (nodesAt plan g ∪ only v)) groups (suc v)
   joins g h a =
       let m = nodesAt plan g ∪ only v in
-      let f = group-fits in
-      one-more t plan (set plan (2 * g + 1) m) groups groups v g (recordAt plan g) m G (nodes-changed plan g m (omega arith))
+      one-more t plan (set plan (2 * g + 1) m) groups groups v g (recordAt plan g) m G (nodes-changed plan g m (omega (arith, P .room)))
       (omega (arith, G .few)) h (omega arith) (λ k q d. q) (G .inside g h)
       (λ u w p. ⊎-elim (λ q. G .alike g u w h q) (λ q. opened u w q ∙ a w) (∪-cases (nodesAt plan g) (only v) u p))
       (∪-right (nodesAt plan g) (only v) v (only-in v))
@@ -130,7 +125,7 @@ module _ {t plan : List ℕ} {groups r v : ℕ} (P : Placing t plan groups r v) 
   -- or it starts a group
   pub starts : Grouping t (set (set plan (2 * groups) r) (2 * groups + 1) (only v)) (groups + 1) (suc v)
   starts =
-      one-more t plan (set (set plan (2 * groups) r) (2 * groups + 1) (only v)) groups (groups + 1) v groups r (only v) G (both-changed plan groups (only v) group-fits r)
+      one-more t plan (set (set plan (2 * groups) r) (2 * groups + 1) (only v)) groups (groups + 1) v groups r (only v) G (both-changed plan groups (only v) (P .room) r)
       (omega (arith, G .few)) (omega arith) (omega arith) (λ k q d. ⊎-elim (λ (p : groups ≤ k). absurd (d (omega arith))) (λ p. p) (le-or-lt groups k))
       (P .inside) opened (only-in v) (λ u q p. absurd (omega arith))
 

@@ -2,7 +2,7 @@
 use mathlib.Core.Path.{_≡_}
 use mathlib.Core.Bool.{Bool, true, _&&_, _||_}
 use mathlib.Core.List.{List}
-use Prim.Native.Nat.{ℕ, _<_, _≤_}
+use Prim.Native.Nat.{ℕ, _+_, _*_, _<_, _≤_}
 use lib.Dec.{leb, eqb}
 use lib.ListN.{length}
 use Rattle.sets.specs.Sets.{has}
@@ -30,10 +30,10 @@ pub record Grouping (t plan : List ℕ) (groups n : ℕ) : Type 0 where
   pub alike : (g v w : ℕ) → g < groups → has (nodesAt plan g) v ≡ true → satisfied t w v ≡ satisfies 3 t w (recordAt plan g)
   pub covers : (v : ℕ) → v < n → (g : ℕ) × (g < groups) × (has (nodesAt plan g) v ≡ true)
 
--- Record r opens node v, and the plan groups the nodes before it and has room for all.
+-- Record r opens node v, and the plan groups the nodes before it and has room for one group more.
 pub record Placing (t plan : List ℕ) (groups r v : ℕ) : Type 0 where
   pub checked : check t ≡ sound
-  pub room : 128 ≤ length plan
+  pub room : 2 * groups + 1 < length plan
   pub inside : r < records t
   pub opens : level t r ≡ 0
   pub number : v ≡ headsBefore t r

@@ -1,13 +1,14 @@
 -- The loop keeps a plan of the nodes that the records passed open. A level 0 record opens the next; any other opens none.
+-- There are no more groups than nodes, of which a sound table has at most 64, so 128 words have room for each.
 use mathlib.Core.Path.{_≡_, refl, sym, ap, _∙_}
 use mathlib.Core.Logic.{⊎-elim}
-use Prim.Native.Nat.{suc, _-_, _≤_}
+use Prim.Native.Nat.{suc, _-_, _<_, _≤_}
 use native.Mathlib.Numerals.{add-one}
 use native.Mathlib.Omega.{arith}
 use lib.ListN.{length}
 use Rattle.meanings.specs.Table.{records, nodes, level}
 use Rattle.tables.specs.Heads.{headsBefore}
-use Rattle.tables.proofs.Heads.{before-first, before-all, head-step, inner-step, before-le}
+use Rattle.tables.proofs.Heads.{before-first, before-all, head-node, head-step, inner-step, before-le}
 use Rattle.tables.proofs.Sound.{record-in, sound-table}
 use Rattle.groups.specs.Alike.{Grouping}
 use Rattle.groups.proofs.Grouping.{none-yet, all-grouped}
@@ -37,34 +38,35 @@ unfolding records
 place-requires c κs =
     let L = c .before .before .before .before in
     let s = L .before .before .before in
+    let T = s .args .t .now in
     let v = L .loop .inv in
+    let l : L .loop .r < records T = c .before .before .before .loop-test .taken in
+    let o = sym (c .before .before .level .ensures .0) ∙ c .before .if1 .taken in
+    let h = head-node T (L .loop .r) l o in
+    let n = sound-table T (s .pre .0) .nodes-le in
     record {
       checked = s .pre .0;
-      room = omega (arith, s .pre .1);
-      inside = c .before .before .before .loop-test .taken;
-      opens = sym (c .before .before .level .ensures .0) ∙ c .before .if1 .taken;
+      room = omega (arith, s .pre .1, v .1, v .2, v .3 .few);
+      inside = l;
+      opens = o;
       number = v .1;
       so-far = v .3;
     }
 
 add-v : tie.Need-add-v Inv-loop μ-loop
+unfolding records
 add-v c =
     let L = c .before .before .before .before .before .before .before in
-    let s = L .before .before .before in
-    let h = before-le (s .args .t .now) (L .loop .r) in
-    let w = sound-table (s .args .t .now) (s .pre .0) .records-le in
+    let h = before-le (L .before .before .before .args .t .now) (L .loop .r) in
     omega (arith, L .loop .inv .0, L .loop .inv .1)
 
 add-r : tie.Need-add-r Inv-loop μ-loop
-add-r c =
-    let L = c .before .before .before in
-    let s = L .before .before .before in
-    let w = sound-table (s .args .t .now) (s .pre .0) .records-le in
-    omega (arith, L .loop .inv .0)
+unfolding records
+add-r c = omega arith
 
 loop-less : tie.Need-loop-less Inv-loop μ-loop
 unfolding records
-loop-less c = let l = c .before .before .loop-test .taken in omega arith
+loop-less c = omega arith
 
 loop-again : tie.Need-loop-again Inv-loop μ-loop
 unfolding records

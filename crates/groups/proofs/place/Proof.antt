@@ -1,45 +1,43 @@
--- A group that is found is like the record, and the node joins it; else it starts one behind the others, for which there is room, since
--- there are no more groups than nodes so far.
+-- A group that is found is like the record, and the node joins it; else it starts one behind the others.
 use mathlib.Core.Path.{_≡_}
 use native.Mathlib.Omega.{arith}
 use borrow.Author.Needs.{needs}
 use lib.ListN.{length-set}
-use Rattle.groups.proofs.Grouping.{node-lt, group-fits, joins, starts}
+use Rattle.groups.proofs.Grouping.{node-lt, joins, starts}
 use Rattle.groups.proofs.place.Statement.{statement}
 use Rattle.groups.proofs.place.Tie as tie
 
 find-requires : tie.Need-find-requires
 find-requires c κs =
     let P = c .before .before .before .pre in
-    let l = group-fits P in
     (P .checked, P .inside, omega arith, P .so-far .inside)
 
 mul-plan : tie.Need-mul-plan
-mul-plan c = let l = group-fits (c .before .before .before .before .before .pre) in omega arith
+mul-plan c = search needs
 
 add-plan : tie.Need-add-plan
-add-plan c = let l = group-fits (c .before .before .before .before .before .pre) in omega arith
+add-plan c = search needs
 
 mul-plan-2 : tie.Need-mul-plan-2
-mul-plan-2 c = let l = group-fits (c .before .before .before .before .before .pre) in omega arith
+mul-plan-2 c = search needs
 
 slice-read-plan : tie.Need-slice-read-plan
-slice-read-plan c = let l = group-fits (c .before .before .before .before .before .before .pre) in omega arith
+slice-read-plan c = search needs
 
 one-requires : tie.Need-one-requires
 one-requires c κs = node-lt (c .before .before .before .before .before .before .pre)
 
 mul-plan-3 : tie.Need-mul-plan-3
-mul-plan-3 c = let l = group-fits (c .before .before .before .before .before .before .before .pre) in omega arith
+mul-plan-3 c = search needs
 
 add-plan-2 : tie.Need-add-plan-2
-add-plan-2 c = let l = group-fits (c .before .before .before .before .before .before .before .pre) in omega arith
+add-plan-2 c = search needs
 
 mul-plan-4 : tie.Need-mul-plan-4
-mul-plan-4 c = let l = group-fits (c .before .before .before .before .before .before .before .pre) in omega arith
+mul-plan-4 c = search needs
 
 slice-write-plan : tie.Need-slice-write-plan
-slice-write-plan c = let l = group-fits (c .before .before .before .before .before .before .before .pre) in omega arith
+slice-write-plan c = search needs
 
 same-length : tie.Need-same-length
 same-length c = search needs
@@ -51,33 +49,31 @@ returns c =
     (rw (c .one .ensures) (joins P (F .find .result) (c .before .before .if1 .taken) (F .find .ensures .1 (c .before .before .if1 .taken))), simp length-set)
 
 mul-plan-5 : tie.Need-mul-plan-5
-mul-plan-5 c = let l = group-fits (c .before .before .before .before .before .pre) in omega arith
+mul-plan-5 c = search needs
 
 mul-plan-6 : tie.Need-mul-plan-6
-mul-plan-6 c = let l = group-fits (c .before .before .before .before .before .pre) in omega arith
+mul-plan-6 c = search needs
 
 slice-write-plan-2 : tie.Need-slice-write-plan-2
-slice-write-plan-2 c = let l = group-fits (c .before .before .before .before .before .pre) in omega arith
+slice-write-plan-2 c = search needs
 
 one-requires-2 : tie.Need-one-requires-2
 one-requires-2 c κs = node-lt (c .before .before .before .before .before .pre)
 
 mul-plan-7 : tie.Need-mul-plan-7
-mul-plan-7 c = let l = group-fits (c .before .before .before .before .before .before .pre) in omega arith
+mul-plan-7 c = search needs
 
 add-plan-3 : tie.Need-add-plan-3
-add-plan-3 c = let l = group-fits (c .before .before .before .before .before .before .pre) in omega arith
+add-plan-3 c = search needs
 
 mul-plan-8 : tie.Need-mul-plan-8
-mul-plan-8 c = let l = group-fits (c .before .before .before .before .before .before .pre) in omega arith
+mul-plan-8 c = search needs
 
 slice-write-plan-3 : tie.Need-slice-write-plan-3
-slice-write-plan-3 c =
-    let l = group-fits (c .before .before .before .before .before .before .pre) in
-    simp length-set (omega arith)
+slice-write-plan-3 c = simp length-set (omega arith)
 
 add-result : tie.Need-add-result
-add-result c = let l = group-fits (c .before .before .before .before .before .before .pre) in omega arith
+add-result c = search needs
 
 same-length-2 : tie.Need-same-length-2
 same-length-2 c = search needs

@@ -8,7 +8,6 @@ use borrow.Author.Needs.{needs}
 use borrow.Author.Count.{below-more}
 use Rattle.sets.proofs.Bools.{clash}
 use Rattle.meanings.specs.Table.{records}
-use Rattle.tables.proofs.Sound.{sound-table}
 use Rattle.groups.specs.Alike.{sameRecord}
 use Rattle.groups.proofs.Alike.{not-ended, same-alike}
 use Rattle.groups.proofs.same_set.Statement.{statement}
@@ -22,28 +21,33 @@ abbrev μ-loop : tie.MeasureT-loop
 μ-loop t a b i₀ i = records t - (a + i)
 
 loop-holds : tie.Need-loop-holds Inv-loop μ-loop
-loop-holds c = let s = c .before in let l = s .pre in (omega arith, omega arith, λ k h. absurd (omega arith))
+loop-holds c = (omega arith, omega arith, λ k h. absurd (omega arith))
 
 add-same-record : tie.Need-add-same-record Inv-loop μ-loop
-add-same-record c = let s = c .before .before in let w = sound-table (s .args .t .now) (s .pre .0) .records-le in omega arith
+unfolding records
+add-same-record c = omega arith
 
 add-same-record-2 : tie.Need-add-same-record-2 Inv-loop μ-loop
-add-same-record-2 c = let s = c .before .before in let w = sound-table (s .args .t .now) (s .pre .0) .records-le in omega arith
+unfolding records
+add-same-record-2 c = omega arith
 
 same-record-requires : tie.Need-same-record-requires Inv-loop μ-loop
 same-record-requires c κs = let v = c .loop .inv in (v .0, v .1)
 
 add-i : tie.Need-add-i Inv-loop μ-loop
-add-i c = let s = c .before .before .before .before in let w = sound-table (s .args .t .now) (s .pre .0) .records-le in omega arith
+unfolding records
+add-i c = omega arith
 
 add-set-ends : tie.Need-add-set-ends Inv-loop μ-loop
-add-set-ends c = let s = c .before .before .before .before in let w = sound-table (s .args .t .now) (s .pre .0) .records-le in omega arith
+unfolding records
+add-set-ends c = omega arith
 
 set-ends-requires : tie.Need-set-ends-requires Inv-loop μ-loop
 set-ends-requires c κs = search needs
 
 add-set-ends-2 : tie.Need-add-set-ends-2 Inv-loop μ-loop
-add-set-ends-2 c = let s = c .before .before .before .before .before .before in let w = sound-table (s .args .t .now) (s .pre .0) .records-le in omega arith
+unfolding records
+add-set-ends-2 c = omega arith
 
 set-ends-requires-2 : tie.Need-set-ends-requires-2 Inv-loop μ-loop
 set-ends-requires-2 c κs = search needs
@@ -65,7 +69,8 @@ returns c =
     (s .pre .0) (omega arith)
 
 add-set-ends-3 : tie.Need-add-set-ends-3 Inv-loop μ-loop
-add-set-ends-3 c = let s = c .before .before .before .before .before .before in let w = sound-table (s .args .t .now) (s .pre .0) .records-le in omega arith
+unfolding records
+add-set-ends-3 c = omega arith
 
 set-ends-requires-3 : tie.Need-set-ends-requires-3 Inv-loop μ-loop
 set-ends-requires-3 c κs = search needs
@@ -74,7 +79,7 @@ returns-2 : tie.Need-returns-2 Inv-loop μ-loop
 returns-2 c = λ e. clash false e refl
 
 loop-less : tie.Need-loop-less Inv-loop μ-loop
-loop-less c = let L = c .before .before .before .before .before .before in let v = L .loop .inv in omega arith
+loop-less c = omega arith
 
 loop-again : tie.Need-loop-again Inv-loop μ-loop
 loop-again c =
