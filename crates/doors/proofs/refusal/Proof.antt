@@ -1,0 +1,14 @@
+-- Each field is the one that the reply names, or 0.
+use Rattle.meanings.specs.Replies.{valueIn}
+use borrow.Author.Needs.{needs}
+use Rattle.doors.proofs.refusal.Statement.{statement}
+use Rattle.doors.proofs.refusal.Tie as tie
+use Rattle.doors.proofs.refusal.Reads as reads
+use Rattle.doors.proofs.refusal.Lts as lts
+
+returns : tie.Need-returns
+unfolding valueIn
+returns c = search needs
+
+pub refusal-spec : {M : Type 1} → statement M
+refusal-spec = tie.close (tie.spec returns)
