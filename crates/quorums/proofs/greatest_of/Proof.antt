@@ -1,0 +1,39 @@
+-- The plan groups the nodes, and the set is one of nodes, which is all that the rounds by groups ask.
+use Prim.Native.Nat.{_<_, _^_}
+use Rattle.meanings.specs.Table.{nodes}
+use Rattle.quorums.proofs.Opening.{inside-lt}
+use borrow.Author.Needs.{needs}
+use Rattle.quorums.proofs.greatest_of.Statement.{statement}
+use Rattle.quorums.proofs.greatest_of.Tie as tie
+use Rattle.quorums.proofs.greatest_of.Reads as reads
+use Rattle.quorums.proofs.greatest_of.Lts as lts
+use Rattle.groups.proofs.group.Reads as group-reads
+use Rattle.rounds.proofs.survivors.Reads as survivors-reads
+
+slice-aggregate-group : tie.Need-slice-aggregate-group
+slice-aggregate-group c = search needs
+
+group-requires : tie.Need-group-requires
+group-requires c κs = search needs
+
+slice-aggregate-survivors : tie.Need-slice-aggregate-survivors
+slice-aggregate-survivors c = search needs
+
+survivors-requires : tie.Need-survivors-requires
+survivors-requires c κs =
+    let s = c .before .before .before .before .before in
+    let h : s .args .set < 2 ^ nodes (s .args .t .now) = inside-lt (s .args .set) (nodes (s .args .t .now)) (s .pre .1) in
+    search needs
+
+returns : tie.Need-returns
+returns c = search needs
+
+pub greatest-of-spec : {M : Type 1} → statement M
+greatest-of-spec =
+    tie.close
+    (tie.spec
+    slice-aggregate-group
+    group-requires
+    slice-aggregate-survivors
+    survivors-requires
+    returns)

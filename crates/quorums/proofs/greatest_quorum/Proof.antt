@@ -1,0 +1,104 @@
+-- The table's faults first, then 8 for either set, each handed on whatever the answer would be; then the set and its rounds.
+use mathlib.Core.Path.{_≡_, _∙_, ap}
+use mathlib.Core.Bool.{true}
+use mathlib.Core.List.{[], _∷_}
+use Rattle.sets.specs.Sets.{within, everyone, _∪_}
+use Rattle.meanings.specs.Table.{nodes, satisfied}
+use Rattle.meanings.specs.Quorums.{greatest}
+use Rattle.meanings.specs.Rounds.{rounds}
+use Rattle.meanings.specs.Replies.{reply, _is_, Set, Rounds}
+use Rattle.meanings.specs.Questions.{greatestReply}
+use Rattle.answers.specs.Said.{greatestSays}
+use Rattle.faults.proofs.Known.{fault-known}
+use Rattle.quorums.proofs.Opening.{Passed, past-check, found-inside, found-outside, inside, outside, both-sets, second-inside}
+use borrow.Author.Needs.{needs}
+use Rattle.quorums.proofs.greatest_quorum.Statement.{statement}
+use Rattle.quorums.proofs.greatest_quorum.Tie as tie
+use Rattle.quorums.proofs.greatest_quorum.Reads as reads
+use Rattle.quorums.proofs.greatest_quorum.Lts as lts
+use Rattle.faults.proofs.check_table.Reads as check-table-reads
+use Rattle.quorums.proofs.fault_of.Reads as fault-of-reads
+use Rattle.quorums.proofs.inside.Reads as inside-reads
+use Rattle.quorums.proofs.greatest_of.Reads as greatest-of-reads
+
+check-table-requires : tie.Need-check-table-requires
+check-table-requires c κs = search needs
+
+enum-known-checked : tie.Need-enum-known-checked
+enum-known-checked c = search needs
+
+enum-told : tie.Need-enum-told
+enum-told c = search needs
+
+fault-of-requires : tie.Need-fault-of-requires
+fault-of-requires c κs = search needs
+
+returns : tie.Need-returns
+unfolding greatestReply
+returns c =
+    let P = c .before .before .before in
+    fault-known (P .before .before .args .table .now) (P .check-table .result) (P .check-table .ensures) (c .fault-of .result) (c .fault-of .ensures) _
+
+-- past the check
+passed : (c : tie.After-known-told) → Passed (c .before .before .before .before .before .args .table .now) (c .before .checked .given .0 .0)
+passed c =
+    let P = c .before .before .before in
+    let g = c .before .checked .given in
+    past-check (P .before .before .args .table .now) (P .check-table .result) (P .check-table .ensures) (g .0 .0) (g .0 .1 .0) (g .1)
+
+inside-requires : tie.Need-inside-requires
+inside-requires c κs = passed c .few
+
+-- both sets lie within the nodes
+both-inside : (c : tie.Else1) →
+    let s = c .before .before .before .before .before .before .before in
+    within (s .args .out ∪ s .args .within) (everyone (nodes (s .args .table .now))) ≡ true
+both-inside c =
+    let I = c .before in
+    let K = I .before in
+    let s = K .before .before .before .before .before in
+    found-inside (s .args .table .now) (K .before .checked .given .0 .0) (passed K) (s .args .out ∪ s .args .within) (I .inside .result) (I .inside .ensures) (c .if1 .left)
+
+returns-2 : tie.Need-returns-2
+unfolding greatestReply
+returns-2 c =
+    let I = c .before in
+    let K = I .before in
+    let s = K .before .before .before .before .before in
+    let t = s .args .table .now in
+    let n = K .before .checked .given .0 .0 in
+    let m = s .args .out ∪ s .args .within in
+    outside t n (passed K) (within m (everyone (nodes t))) (found-outside t n (passed K) m (I .inside .result) (I .inside .ensures) (c .if1 .taken)) (reply 0 (Set is greatest (nodes t) (satisfied t) (s .args .out) (s .args .within) ∷ Rounds is rounds (nodes t) (satisfied t) (s .args .out) (s .args .within) ∷ []))
+    ∙ both-sets t (s .args .out) (s .args .within) (s .fits .out .fits) (s .fits .within .fits) (reply 0 (Set is greatest (nodes t) (satisfied t) (s .args .out) (s .args .within) ∷ Rounds is rounds (nodes t) (satisfied t) (s .args .out) (s .args .within) ∷ []))
+
+greatest-of-requires : tie.Need-greatest-of-requires
+greatest-of-requires c κs =
+    let K = c .before .before in
+    let s = K .before .before .before .before .before in
+    (passed K .checked, second-inside (s .args .table .now) (s .args .out) (s .args .within) (s .fits .out .fits) (s .fits .within .fits) (both-inside c))
+
+returns-3 : tie.Need-returns-3
+unfolding greatestReply
+returns-3 c =
+    let E = c .before in
+    let K = E .before .before in
+    let s = K .before .before .before .before .before in
+    let t = s .args .table .now in
+    let x = (reply 0 (Set is greatest (nodes t) (satisfied t) (s .args .out) (s .args .within) ∷ Rounds is rounds (nodes t) (satisfied t) (s .args .out) (s .args .within) ∷ [])) in
+    ap greatestSays (c .greatest-of .ensures)
+    ∙ inside t (K .before .checked .given .0 .0) (passed K) (within (s .args .out ∪ s .args .within) (everyone (nodes t))) (both-inside E) x
+    ∙ both-sets t (s .args .out) (s .args .within) (s .fits .out .fits) (s .fits .within .fits) x
+
+pub greatest-quorum-spec : {M : Type 1} → statement M
+greatest-quorum-spec =
+    tie.close
+    (tie.spec
+    check-table-requires
+    enum-known-checked
+    enum-told
+    fault-of-requires
+    returns
+    inside-requires
+    returns-2
+    greatest-of-requires
+    returns-3)

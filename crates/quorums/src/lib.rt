@@ -1,0 +1,147 @@
+// Questions about one set of nodes (document 01, 'Meanings'): is it a quorum, what is the greatest quorum within it, does it block a
+// node? Any list of words may be asked about: the numbers 1 to 7 of its table come first, then 8, then the answer.
+ghost use mathlib.Core.Path.{_≡_};
+ghost use mathlib.Core.Bool.{true};
+ghost use Prim.Native.Nat.{ℕ, _<_, _≤_};
+ghost use Rattle.sets.specs.Sets.{within as withinSet, everyone};
+ghost use Rattle.meanings.specs.Table.{records, nodes as nodesOf, headOf, satisfied};
+ghost use Rattle.meanings.specs.Faults.{check, sound};
+ghost use Rattle.meanings.specs.Quorums.{quorum, greatest, blocks};
+ghost use Rattle.meanings.specs.Rounds.{rounds};
+ghost use Rattle.meanings.specs.Questions.{yesOrNo, quorumReply, greatestReply, blocksReply};
+ghost use Rattle.answers.specs.declared.Fault.{Fault as FaultOf};
+ghost use Rattle.answers.specs.declared.Checked.the-variants as Cx;
+ghost use Rattle.answers.specs.declared.Greatest.the-variants as Gx;
+ghost use Rattle.answers.specs.Said.{judgedSays, greatestSays};
+use answers::Checked;
+use answers::Fault;
+use answers::Greatest;
+use answers::Judged;
+
+// The fault that turns a table away, for a question to hand on.
+pub fn fault_of(checked: Checked) -> Fault
+    requires { ⌜ ((f : FaultOf) × (checked ≡ Cx.Bad f)) ⌝ }
+    ensures { λ o. ⌜ checked ≡ Cx.Bad o ⌝ }
+{
+    let Checked::Bad(fault) = checked else {
+        return Fault::Count(0);
+    };
+    fault
+}
+
+// Whether a set lies within so many nodes.
+pub fn inside(set: u64, nodes: u64) -> bool
+    requires { ⌜ nodes ≤ 64 ⌝ }
+    ensures { λ o. ⌜ o ≡ withinSet set (everyone nodes) ⌝ }
+{
+    if nodes == 64 {
+        return true;
+    }
+    set >> nodes == 0
+}
+
+// A question answered by yes or no.
+fn yes_or_no(yes: bool) -> Judged
+    ensures { λ o. ⌜ judgedSays o ≡ yesOrNo yes ⌝ }
+{
+    if yes {
+        return Judged::Yes;
+    }
+    Judged::No
+}
+
+// The record that opens node v. There is one, so the walk over the records ends at it.
+pub fn head(t: &[u64], v: u64) -> usize
+    requires { ⌜ v < nodesOf (now t) ⌝ }
+    ensures { λ o. ⌜ (o ≡ headOf (now (t .entry)) v) × (o < records (now (t .entry))) ⌝ }
+{
+    let mut before = 0u64;
+    let mut r = 0;
+    loop {
+        if tables::level(t, r) == 0 {
+            if before == v {
+                return r;
+            }
+            before += 1;
+        }
+        r += 1;
+    }
+}
+
+// Whether a set is a quorum, with `out` counted out.
+fn quorum_of(t: &[u64], out: u64, set: u64) -> bool
+    requires { ⌜ (check (now t) ≡ sound) × (withinSet set (everyone (nodesOf (now t))) ≡ true) ⌝ }
+    ensures { λ o. ⌜ o ≡ quorum (nodesOf (now (t .entry))) (satisfied (now (t .entry))) out set ⌝ }
+{
+    let mut plan = [0u64; 128];
+    let groups = groups::group(t, &mut plan);
+    rounds::quorum(t, &plan, groups, out, set)
+}
+
+// The greatest quorum within a set, with `out` counted out, and its rounds.
+fn greatest_of(t: &[u64], out: u64, set: u64) -> Greatest
+    requires { ⌜ (check (now t) ≡ sound) × (withinSet set (everyone (nodesOf (now t))) ≡ true) ⌝ }
+    ensures { λ o. ⌜ o ≡ Gx.Is (greatest (nodesOf (now (t .entry))) (satisfied (now (t .entry))) out set) (rounds (nodesOf (now (t .entry))) (satisfied (now (t .entry))) out set) ⌝ }
+{
+    let mut plan = [0u64; 128];
+    let groups = groups::group(t, &mut plan);
+    let left = rounds::survivors(t, &plan, groups, out, set);
+    Greatest::Is {
+        set: left.set,
+        rounds: left.rounds,
+    }
+}
+
+// Whether the nodes outside a set do not satisfy the quorum set of node v.
+fn unsatisfied(t: &[u64], nodes: u64, set: u64, v: u64) -> bool
+    requires { ⌜ (check (now t) ≡ sound) × (nodes ≡ nodesOf (now t)) × (v < nodesOf (now t)) ⌝ }
+    ensures { λ o. ⌜ o ≡ blocks (nodesOf (now (t .entry))) (satisfied (now (t .entry))) set v ⌝ }
+{
+    let r = head(t, v);
+    !judge::satisfies(t, sets::without(sets::all(nodes), set), r, 3)
+}
+
+// Is this set a quorum, with `out` counted out?
+pub fn is_quorum(table: &[u64], out: u64, set: u64) -> Judged
+    ensures { λ r. ⌜ judgedSays r ≡ quorumReply (now (table .entry)) out set ⌝ }
+{
+    let checked = faults::check_table(table);
+    let Checked::Sound { nodes, records: _ } = checked else {
+        return Judged::Bad(fault_of(checked));
+    };
+    if !inside(out | set, nodes) {
+        return Judged::Outside;
+    }
+    yes_or_no(quorum_of(table, out, set))
+}
+
+// The greatest quorum within a set, with `out` counted out: the union of all quorums there, or empty; and its rounds.
+pub fn greatest_quorum(table: &[u64], out: u64, within: u64) -> Greatest
+    ensures { λ r. ⌜ greatestSays r ≡ greatestReply (now (table .entry)) out within ⌝ }
+{
+    let checked = faults::check_table(table);
+    let Checked::Sound { nodes, records: _ } = checked else {
+        return Greatest::Bad(fault_of(checked));
+    };
+    if !inside(out | within, nodes) {
+        return Greatest::Outside;
+    }
+    greatest_of(table, out, within)
+}
+
+// Does a set block a node: do the nodes outside the set not satisfy the node's quorum set?
+pub fn blocks_node(table: &[u64], set: u64, node: u64) -> Judged
+    ensures { λ r. ⌜ judgedSays r ≡ blocksReply (now (table .entry)) set node ⌝ }
+{
+    let checked = faults::check_table(table);
+    let Checked::Sound { nodes, records: _ } = checked else {
+        return Judged::Bad(fault_of(checked));
+    };
+    if !inside(set, nodes) {
+        return Judged::Outside;
+    }
+    if nodes <= node {
+        return Judged::Outside;
+    }
+    yes_or_no(unsatisfied(table, nodes, set, node))
+}
