@@ -15,10 +15,11 @@ use Rattle.sets.specs.Sets.{size}
 use Rattle.meanings.specs.Table.{nodes, satisfied}
 use Rattle.meanings.specs.Quorums.{ground, intersecting, disjointQuorums}
 use Rattle.meanings.specs.Trees.{Pair, Walk, hit, missed, stuck, verdictTree, walk}
-use Rattle.meanings.specs.Questions.{verdictSays as replySays}
+use Rattle.meanings.specs.Questions.{verdictReply, verdictSays as replySays}
 use Rattle.theory.proofs.Verdict.{Sound, Decided, all-meet, two-apart, decided, sound-disjoint}
 use Rattle.judge.proofs.Monotone.{satisfied-monotone}
 use Rattle.answers.specs.Said.{verdictSays}
+use Rattle.answers.specs.declared.Fault.{Fault}
 use Rattle.answers.specs.declared.Verdict.{Verdict}
 use Rattle.answers.specs.declared.Verdict.the-variants.{Yes, No, Spent, Unsplit, Outside, Bad}
 use Rattle.answers.proofs.Exact.{verdict-exact}
@@ -158,3 +159,32 @@ module _ (t : List ℕ) (d allowance : ℕ) where
 -- Two answers that both fit the promise are equal.
 pub verdict-unique : (t : List ℕ) (d allowance : ℕ) (x y : Verdict) → VerdictPromise t d allowance x → VerdictPromise t d allowance y → x ≡ y
 verdict-unique t d allowance x y p q = verdict-exact x y (p .told ∙ sym (q .told))
+
+-- ---- the promise, kept by each way out of the operation
+kinds-apart : {A : Type 0} (x y : Verdict) → x ≡ y → ¬ (kind x ≡ kind y) → A
+kinds-apart x y e f = absurd (f (ap kind e))
+
+pub kept-bad : (t : List ℕ) (d allowance : ℕ) (f : Fault) → verdictSays (Bad f) ≡ verdictReply t d allowance → VerdictPromise t d allowance (Bad f)
+kept-bad t d allowance f e =
+    record {
+      told = e;
+      yes-means = λ k x. kinds-apart (Bad f) (Yes k) x (λ q. omega arith);
+      no-means = λ p q k x. kinds-apart (Bad f) (No p q k) x (λ y. omega arith);
+    }
+
+pub kept-outside : (t : List ℕ) (d allowance : ℕ) → verdictSays Outside ≡ verdictReply t d allowance → VerdictPromise t d allowance Outside
+kept-outside t d allowance e =
+    record {
+      told = e;
+      yes-means = λ k x. kinds-apart Outside (Yes k) x (λ q. omega arith);
+      no-means = λ p q k x. kinds-apart Outside (No p q k) x (λ y. omega arith);
+    }
+
+pub kept-search : (t : List ℕ) (d allowance : ℕ) (r : Verdict) → r ≡ within allowance 0 (walk (verdictTree (nodes t) (satisfied t) d))
+    → verdictSays r ≡ verdictReply t d allowance → VerdictPromise t d allowance r
+kept-search t d allowance r w e =
+    record {
+      told = e;
+      yes-means = λ k x. yes-means t d allowance k (sym w ∙ x);
+      no-means = λ p q k x. no-means t d allowance p q k (sym w ∙ x);
+    }

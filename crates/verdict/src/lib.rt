@@ -6,6 +6,8 @@ ghost use Rattle.verdict.specs.Search.{Visiting, Looked, within, treeOf}
 ghost use Rattle.meanings.specs.Table.{nodes as nodesOf, satisfied};
 ghost use Rattle.meanings.specs.Faults.{check, sound};
 ghost use Rattle.meanings.specs.Trees.{verdictTree, walk};
+ghost use Rattle.verdict.specs.Promise.{VerdictPromise};
+use answers::Checked;
 use answers::Verdict;
 
 // What a visit comes to before it splits: a leaf; a quorum outside the chosen nodes, which are a quorum too; or the nodes that can be
@@ -114,4 +116,18 @@ pub fn decide(t: &[u64], nodes: u64, out: u64, allowance: u64) -> Verdict
     let ground = sets::without(sets::all(nodes), out);
     let half = sets::count(ground) / 2;
     search(t, &plan, groups, out, ground, half, 0, ground, allowance, 0)
+}
+
+// Do all quorums intersect, with `out` counted out? Yes, or two quorums of the rest with no node in common.
+pub fn intersect(table: &[u64], out: u64, allowance: u64) -> Verdict
+    ensures { λ r. ⌜ VerdictPromise (now (table .entry)) out allowance r ⌝ }
+{
+    let checked = faults::check_table(table);
+    let Checked::Sound { nodes, records: _ } = checked else {
+        return Verdict::Bad(quorums::fault_of(checked));
+    };
+    if !quorums::inside(out, nodes) {
+        return Verdict::Outside;
+    }
+    decide(table, nodes, out, allowance)
 }
