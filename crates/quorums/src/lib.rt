@@ -18,7 +18,7 @@ use answers::Fault;
 use answers::Greatest;
 use answers::Judged;
 
-// The fault that turns a table away, for a question to hand on.
+// The fault of a table that is turned away, for a question to hand on; no other check is asked about.
 pub fn fault_of(checked: Checked) -> Fault
     requires { ⌜ ((f : FaultOf) × (checked ≡ Cx.Bad f)) ⌝ }
     ensures { λ o. ⌜ checked ≡ Cx.Bad o ⌝ }
@@ -29,7 +29,7 @@ pub fn fault_of(checked: Checked) -> Fault
     fault
 }
 
-// Whether a set lies within so many nodes.
+// Whether a set lies within so many nodes. Any word lies within 64, and no shift goes that far.
 pub fn inside(set: u64, nodes: u64) -> bool
     requires { ⌜ nodes ≤ 64 ⌝ }
     ensures { λ o. ⌜ o ≡ withinSet set (everyone nodes) ⌝ }
@@ -92,8 +92,8 @@ fn greatest_of(t: &[u64], out: u64, set: u64) -> Greatest
     }
 }
 
-// Whether the nodes outside a set do not satisfy the quorum set of node v.
-fn unsatisfied(t: &[u64], nodes: u64, set: u64, v: u64) -> bool
+// Whether a set blocks node v: its quorum set is judged on the nodes outside the set.
+fn blocked(t: &[u64], nodes: u64, set: u64, v: u64) -> bool
     requires { ⌜ (check (now t) ≡ sound) × (nodes ≡ nodesOf (now t)) × (v < nodesOf (now t)) ⌝ }
     ensures { λ o. ⌜ o ≡ blocks (nodesOf (now (t .entry))) (satisfied (now (t .entry))) set v ⌝ }
 {
@@ -129,7 +129,7 @@ pub fn greatest_quorum(table: &[u64], out: u64, within: u64) -> Greatest
     greatest_of(table, out, within)
 }
 
-// Does a set block a node: do the nodes outside the set not satisfy the node's quorum set?
+// Does this set block this node: do the nodes outside it not satisfy the node's quorum set?
 pub fn blocks_node(table: &[u64], set: u64, node: u64) -> Judged
     ensures { λ r. ⌜ judgedSays r ≡ blocksReply (now (table .entry)) set node ⌝ }
 {
@@ -143,5 +143,5 @@ pub fn blocks_node(table: &[u64], set: u64, node: u64) -> Judged
     if nodes <= node {
         return Judged::Outside;
     }
-    yes_or_no(unsatisfied(table, nodes, set, node))
+    yes_or_no(blocked(table, nodes, set, node))
 }

@@ -18,7 +18,7 @@ use Rattle.quorums.proofs.blocks_node.Lts as lts
 use Rattle.faults.proofs.check_table.Reads as check-table-reads
 use Rattle.quorums.proofs.fault_of.Reads as fault-of-reads
 use Rattle.quorums.proofs.inside.Reads as inside-reads
-use Rattle.quorums.proofs.unsatisfied.Reads as unsatisfied-reads
+use Rattle.quorums.proofs.blocked.Reads as blocked-reads
 use Rattle.quorums.proofs.yes_or_no.Reads as yes-or-no-reads
 
 check-table-requires : tie.Need-check-table-requires
@@ -90,8 +90,8 @@ node-inside c =
     let s = K .before .before .before .before .before in
     subst (λ (k : ℕ). s .args .node < k) (passed K .nodes-are) (c .if2 .left)
 
-unsatisfied-requires : tie.Need-unsatisfied-requires
-unsatisfied-requires c κs = let K = c .before .before .before in (passed K .checked, passed K .nodes-are, node-inside c)
+blocked-requires : tie.Need-blocked-requires
+blocked-requires c κs = let K = c .before .before .before in (passed K .checked, passed K .nodes-are, node-inside c)
 
 yes-or-no-requires : tie.Need-yes-or-no-requires
 yes-or-no-requires c κs = search needs
@@ -105,7 +105,7 @@ returns-4 c =
     let s = K .before .before .before .before .before in
     let t = s .args .table .now in
     c .yes-or-no .ensures
-    ∙ ap yesOrNo (U .unsatisfied .ensures)
+    ∙ ap yesOrNo (U .blocked .ensures)
     ∙ then-inside t (K .before .checked .given .0 .0) (passed K) (within (s .args .set) (everyone (nodes t))) (ltb (s .args .node) (nodes t)) (set-inside (E .before))
     (lt-ltb (s .args .node) (nodes t) (node-inside E)) (yesOrNo (blocks (nodes t) (satisfied t) (s .args .set) (s .args .node)))
 
@@ -121,6 +121,6 @@ blocks-node-spec =
     inside-requires
     returns-2
     returns-3
-    unsatisfied-requires
+    blocked-requires
     yes-or-no-requires
     returns-4)

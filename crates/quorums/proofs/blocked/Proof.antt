@@ -9,10 +9,10 @@ use Rattle.meanings.specs.Table.{nodes, satisfies, satisfied, headOf}
 use Rattle.meanings.specs.Quorums.{blocks}
 use Rattle.tables.proofs.Sound.{sound-table}
 use borrow.Author.Needs.{needs}
-use Rattle.quorums.proofs.unsatisfied.Statement.{statement}
-use Rattle.quorums.proofs.unsatisfied.Tie as tie
-use Rattle.quorums.proofs.unsatisfied.Reads as reads
-use Rattle.quorums.proofs.unsatisfied.Lts as lts
+use Rattle.quorums.proofs.blocked.Statement.{statement}
+use Rattle.quorums.proofs.blocked.Tie as tie
+use Rattle.quorums.proofs.blocked.Reads as reads
+use Rattle.quorums.proofs.blocked.Lts as lts
 use Rattle.judge.proofs.satisfies.Reads as satisfies-reads
 use Rattle.quorums.proofs.head.Reads as head-reads
 use Rattle.sets.proofs.all.Reads as all-reads
@@ -51,6 +51,6 @@ returns c =
     (W .without .ensures ∙ ap (λ (m : ℕ). m ∖ s .args .set) (A .all .ensures))
     (c .satisfies .ensures)
 
-pub unsatisfied-spec : {M : Type 1} → statement M
-unsatisfied-spec =
+pub blocked-spec : {M : Type 1} → statement M
+blocked-spec =
     tie.close (tie.spec head-requires all-requires without-requires satisfies-requires returns)
