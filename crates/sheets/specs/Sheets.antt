@@ -1,0 +1,66 @@
+-- Document 01, 'The trust sheet' and 'Numbers given back': the text of a table, and what a sheet's lines come to.
+use Prim.Native.Nat.{ℕ, zero, suc, _+_, _*_, _/_, _%_}
+use mathlib.Core.Bool.{cond}
+use mathlib.Core.List.{List, [], _∷_, _++_}
+use lib.Dec.{eqb}
+use lib.ListN.{length, drop}
+use Rattle.meanings.specs.Faults.{check}
+use Rattle.meanings.specs.Replies.{Reply, reply, _is_, Place, Count}
+use Rattle.meanings.specs.Questions.{onCheck, inRoom}
+use Rattle.lines.specs.Lines.{lineText, readLine}
+use Rattle.lines.specs.declared.Line.{Line}
+use Rattle.lines.specs.declared.Line.the-variants.{Good, Bad}
+
+-- One record a line, each line ended by LF. A record is its control word, threshold + 256 x level, and its members.
+unfoldable pub sheetText : List ℕ → List ℕ
+sheetText [] = []
+sheetText (control ∷ []) = []
+sheetText (control ∷ members ∷ t) = lineText (control / 256) (control % 256) members ++ sheetText t
+
+-- what a sheet's lines come to: the words of their records, or the first fault's number and place
+pub data Taken : Type 0 where
+  words : List ℕ → Taken
+  stops : ℕ → ℕ → Taken
+
+abbrev pub onTaken : {A : Type 0} → Taken → (ℕ → ℕ → A) → (List ℕ → A) → A
+onTaken (stops k p) f g = f k p
+onTaken (words w) f g = g w
+
+-- words that stand before those of the lines that follow
+abbrev pub before : List ℕ → Taken → Taken
+before w (words v) = words (w ++ v)
+before w (stops k p) = stops k p
+
+-- by cases on a line that was read
+abbrev pub onLine : {A : Type 0} → Line → A → (ℕ → ℕ → ℕ → ℕ → A) → A
+onLine Bad b f = b
+onLine (Good level threshold members used) b f = f level threshold members used
+
+-- The lines of s are taken in turn, each from where the one before ended, and the first fault decides: a malformed line gives 12,
+-- and any byte where no line is left to take gives 1. The next line is counted `line`.
+unfoldable pub takeLines : (left line : ℕ) → List ℕ → Taken
+takeLines zero line s = cond (eqb (length s) 0) (words []) (stops 1 257)
+takeLines (suc left) line s =
+    cond (eqb (length s) 0) (words [])
+    (onLine (readLine s) (stops 12 line)
+    (λ level threshold members used. before ((threshold + 256 * level) ∷ members ∷ []) (takeLines left (suc line) (drop used s))))
+
+-- a sheet has at most 256 lines, counted from 1
+unfoldable pub sheetLines : List ℕ → Taken
+sheetLines s = takeLines 256 1 s
+
+-- a table is put, as its words or its text, into a lent buffer of so much room: numbers 1 to 7 of the table first, 10 last
+unfoldable pub putReply : (table own : List ℕ) (room : ℕ) → Reply
+putReply table own room = onCheck (check table) (inRoom room (length own) (reply 0 (Count is length own ∷ [])))
+
+-- Read a sheet into a lent list of so many words. An empty sheet has no record, which its check finds.
+unfoldable pub readReply : (sheet : List ℕ) (room : ℕ) → Reply
+readReply s room = onTaken (sheetLines s) (λ k p. reply k (Place is p ∷ [])) (λ w. putReply w w room)
+
+-- the words that it puts at the front, where it answers
+unfoldable pub readPuts : (sheet : List ℕ) → List ℕ
+readPuts s = onTaken (sheetLines s) (λ k p. []) (λ w. w)
+
+-- Write a table as a sheet into a lent buffer of so many bytes, and the bytes are its text.
+unfoldable pub writeReply : (table : List ℕ) (room : ℕ) → Reply
+writeReply t room = putReply t (sheetText t) room

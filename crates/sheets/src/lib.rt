@@ -1,0 +1,94 @@
+// Trust sheets: a sheet is read into a lent table, and a table is written as a sheet (document 01, 'The trust sheet' and 'Numbers
+// given back'). A refusal leaves what was lent untouched: lines are read into words of the reader's own, and a writer knows the length
+// of the whole text before it writes.
+ghost use mathlib.Core.Path.{_≡_};
+ghost use mathlib.Core.List.{_++_};
+ghost use Prim.Native.Nat.{_≤_};
+ghost use lib.ListN.{length, drop};
+ghost use Rattle.decimal.specs.Bytes.{atFront};
+ghost use Rattle.meanings.specs.Faults.{check, sound};
+ghost use Rattle.answers.specs.Said.{readSays, wroteSays};
+ghost use Rattle.sheets.specs.Sheets.{sheetText, sheetLines, putReply};
+ghost use Rattle.sheets.specs.Promises.{ReadPromise, WritePromise, Takes};
+use answers::Checked;
+use answers::Fault;
+use answers::Read;
+use answers::Wrote;
+use lines::Line;
+
+// The lines of a sheet in turn, each from where the one before ended: their records go into the words, two a record, unless a line
+// is malformed or stands where none is left to take.
+fn take_lines(sheet: &[u8], words: &mut [u64]) -> Read
+    requires { ⌜ length (now words) ≡ 512 ⌝ }
+    ensures { λ r. ⌜ Takes (sheetLines (now (sheet .entry))) (now (words .exit)) r ⌝ }
+{
+    let mut at = 0;
+    let mut r = 0;
+    while at < sheet.len() {
+        if r == 256 {
+            return Read::Bad(Fault::Count(257));
+        }
+        let Line::Good {
+            level,
+            threshold,
+            members,
+            used,
+        } = lines::line_at(sheet, at)
+        else {
+            return Read::Malformed { line: r as u64 + 1 };
+        };
+        words[2 * r] = threshold + 256 * level;
+        words[2 * r + 1] = members;
+        at += used;
+        r += 1;
+    }
+    Read::Words {
+        count: 2 * r as u64,
+    }
+}
+
+// The words at the front of the table.
+fn put_words(words: &[u64], table: &mut [u64])
+    requires { ⌜ length (now words) ≤ length (now table) ⌝ }
+    ensures { λ _. ⌜ now (table .exit) ≡ atFront (now (words .entry)) (now (table .entry)) ⌝ }
+{
+    let mut i = 0;
+    while i < words.len() {
+        table[i] = words[i];
+        i += 1;
+    }
+}
+
+// How many bytes the text of a table takes.
+fn sheet_len(table: &[u64]) -> usize
+    requires { ⌜ check (now table) ≡ sound ⌝ }
+    ensures { λ r. ⌜ r ≡ length (sheetText (now (table .entry))) ⌝ }
+{
+    let mut need = 0;
+    let mut r = 0;
+    while r < table.len() / 2 {
+        need += lines::line_len(
+            tables::level(table, r),
+            tables::threshold(table, r),
+            tables::members(table, r),
+        );
+        r += 1;
+    }
+    need
+}
+
+// The text of a table at the front of the sheet, each line into what is left of it.
+fn put_lines(table: &[u64], sheet: &mut [u8])
+    requires { ⌜ (check (now table) ≡ sound) × (length (sheetText (now table)) ≤ length (now sheet)) ⌝ }
+    ensures { λ _. ⌜ now (sheet .exit) ≡ atFront (sheetText (now (table .entry))) (now (sheet .entry)) ⌝ }
+{
+    let mut at = 0;
+    let mut r = 0;
+    while r < table.len() / 2 {
+        let level = tables::level(table, r);
+        let threshold = tables::threshold(table, r);
+        let members = tables::members(table, r);
+        at += lines::put_line(&mut sheet[at..], level, threshold, members);
+        r += 1;
+    }
+}
