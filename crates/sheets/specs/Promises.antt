@@ -1,27 +1,30 @@
 -- What each operation promises: what it answers, and what the lent buffer holds afterwards.
 use Prim.Native.Nat.{ℕ}
 use mathlib.Core.Path.{_≡_}
-use mathlib.Core.List.{List, [], _∷_, _++_}
+use mathlib.Core.List.{List, [], _∷_}
 use lib.ListN.{length, take}
 use Rattle.meanings.specs.Replies.{Reply, reply, _is_, Place, leaves}
 use Rattle.answers.specs.Said.{readSays, wroteSays}
 use Rattle.answers.specs.declared.Read.{Read}
 use Rattle.answers.specs.declared.Read.the-variants.{Words}
 use Rattle.answers.specs.declared.Wrote.{Wrote}
-use Rattle.sheets.specs.Sheets.{Taken, words, stops, sheetLines, sheetText, putReply, readReply, readPuts, writeReply}
+use Rattle.sheets.specs.Sheets.{Taken, words, stops, sheetText, readReply, readPuts, writeReply}
 
--- a sheet is read into a lent list, which held `before`
-pub record ReadPromise (sheet before after : List ℕ) (r : Read) : Type 0 where
-  pub says : readSays r ≡ readReply sheet (length before)
-  pub list : after ≡ leaves (readReply sheet (length before) .number) (readPuts sheet) before
+-- A lent buffer held `before` and then holds `after`. The answer says what it is to say, and what is its own stands at the front of the
+-- buffer if its number is 0; otherwise the buffer is untouched.
+pub record Filled (answer : Reply) (own before after : List ℕ) (said : Reply) : Type 0 where
+  pub says : said ≡ answer
+  pub holds : after ≡ leaves (answer .number) own before
 
--- a table is written into a lent buffer, which held `before`
-pub record WritePromise (table before after : List ℕ) (r : Wrote) : Type 0 where
-  pub says : wroteSays r ≡ writeReply table (length before)
-  pub buffer : after ≡ leaves (writeReply table (length before) .number) (sheetText table) before
+-- a sheet is read into a lent list
+abbrev pub ReadPromise : (sheet before after : List ℕ) → Read → Type 0
+ReadPromise sheet before after r = Filled (readReply sheet (length before)) (readPuts sheet) before after (readSays r)
 
--- ---- the steps in between
--- taking the lines tells the first fault, or counts the words, which then stand at the front
-abbrev pub Takes : Taken → List ℕ → Read → Type 0
+-- a table is written as a sheet into a lent buffer
+abbrev pub WritePromise : (table before after : List ℕ) → Wrote → Type 0
+WritePromise table before after r = Filled (writeReply table (length before)) (sheetText table) before after (wroteSays r)
+
+-- taking the lines of a sheet tells the first fault, or counts the words, which then stand at the front
+abbrev pub Takes : Taken → (after : List ℕ) → Read → Type 0
 Takes (stops k p) after r = readSays r ≡ reply k (Place is p ∷ [])
 Takes (words w) after r = (r ≡ Words (length w)) × (take (length w) after ≡ w)

@@ -49,18 +49,19 @@ takeLines (suc left) line s =
 unfoldable pub sheetLines : List ℕ → Taken
 sheetLines s = takeLines 256 1 s
 
--- a table is put, as its words or its text, into a lent buffer of so much room: numbers 1 to 7 of the table first, 10 last
-unfoldable pub putReply : (table own : List ℕ) (room : ℕ) → Reply
-putReply table own room = onCheck (check table) (inRoom room (length own) (reply 0 (Count is length own ∷ [])))
+-- own words or bytes are put into a lent buffer of so much room, or 10 tells how many are needed
+abbrev pub roomReply : (own : List ℕ) (room : ℕ) → Reply
+roomReply own room = inRoom room (length own) (reply 0 (Count is length own ∷ []))
 
--- Read a sheet into a lent list of so many words. An empty sheet has no record, which its check finds.
+-- Read a sheet into a lent list of so many words: the lines, then the numbers 1 to 7 of their records, 10 last. An empty sheet has no
+-- record, which is what its check finds.
 unfoldable pub readReply : (sheet : List ℕ) (room : ℕ) → Reply
-readReply s room = onTaken (sheetLines s) (λ k p. reply k (Place is p ∷ [])) (λ w. putReply w w room)
+readReply s room = onTaken (sheetLines s) (λ k p. reply k (Place is p ∷ [])) (λ w. onCheck (check w) (roomReply w room))
 
 -- the words that it puts at the front, where it answers
 unfoldable pub readPuts : (sheet : List ℕ) → List ℕ
 readPuts s = onTaken (sheetLines s) (λ k p. []) (λ w. w)
 
--- Write a table as a sheet into a lent buffer of so many bytes, and the bytes are its text.
+-- Write a table as a sheet into a lent buffer of so many bytes, and the bytes are its text: numbers 1 to 7 first, 10 last.
 unfoldable pub writeReply : (table : List ℕ) (room : ℕ) → Reply
-writeReply t room = putReply t (sheetText t) room
+writeReply t room = onCheck (check t) (roomReply (sheetText t) room)

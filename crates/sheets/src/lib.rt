@@ -2,14 +2,13 @@
 // given back'). A refusal leaves what was lent untouched: lines are read into words of the reader's own, and a writer knows the length
 // of the whole text before it writes.
 ghost use mathlib.Core.Path.{_≡_};
-ghost use mathlib.Core.List.{_++_};
 ghost use Prim.Native.Nat.{_≤_};
-ghost use lib.ListN.{length, drop};
+ghost use lib.ListN.{length};
 ghost use Rattle.decimal.specs.Bytes.{atFront};
 ghost use Rattle.meanings.specs.Faults.{check, sound};
 ghost use Rattle.answers.specs.Said.{readSays, wroteSays};
-ghost use Rattle.sheets.specs.Sheets.{sheetText, sheetLines, putReply};
-ghost use Rattle.sheets.specs.Promises.{ReadPromise, WritePromise, Takes};
+ghost use Rattle.sheets.specs.Sheets.{sheetText, sheetLines, roomReply};
+ghost use Rattle.sheets.specs.Promises.{ReadPromise, WritePromise, Filled, Takes};
 use answers::Checked;
 use answers::Fault;
 use answers::Read;
@@ -59,6 +58,34 @@ fn put_words(words: &[u64], table: &mut [u64])
     }
 }
 
+// The words into the table, if it has room for them.
+fn fill_table(words: &[u64], table: &mut [u64]) -> Read
+    ensures { λ r. ⌜ Filled (roomReply (now (words .entry)) (length (now (table .entry)))) (now (words .entry)) (now (table .entry)) (now (table .exit)) (readSays r) ⌝ }
+{
+    let count = words.len() as u64;
+    if table.len() < words.len() {
+        return Read::Short { count };
+    }
+    put_words(words, table);
+    Read::Words { count }
+}
+
+// The lines are taken first, then their records are checked, and only a sound table is copied to the caller's.
+pub fn read_sheet(sheet: &[u8], table: &mut [u64]) -> Read
+    ensures { λ r. ⌜ ReadPromise (now (sheet .entry)) (now (table .entry)) (now (table .exit)) r ⌝ }
+{
+    let mut words = [0u64; 512];
+    let taken = take_lines(sheet, &mut words);
+    let Read::Words { count } = taken else {
+        return taken;
+    };
+    let k = count as usize;
+    let Checked::Bad(fault) = faults::check_table(&words[..k]) else {
+        return fill_table(&words[..k], table);
+    };
+    Read::Bad(fault)
+}
+
 // How many bytes the text of a table takes.
 fn sheet_len(table: &[u64]) -> usize
     requires { ⌜ check (now table) ≡ sound ⌝ }
@@ -91,4 +118,28 @@ fn put_lines(table: &[u64], sheet: &mut [u8])
         at += lines::put_line(&mut sheet[at..], level, threshold, members);
         r += 1;
     }
+}
+
+// The text of a sound table into the sheet, if it has room for it.
+fn fill_sheet(table: &[u64], sheet: &mut [u8]) -> Wrote
+    requires { ⌜ check (now table) ≡ sound ⌝ }
+    ensures { λ r. ⌜ Filled (roomReply (sheetText (now (table .entry))) (length (now (sheet .entry)))) (sheetText (now (table .entry))) (now (sheet .entry)) (now (sheet .exit)) (wroteSays r) ⌝ }
+{
+    let need = sheet_len(table);
+    let count = need as u64;
+    if sheet.len() < need {
+        return Wrote::Short { count };
+    }
+    put_lines(table, sheet);
+    Wrote::Bytes { count }
+}
+
+// The table is checked first, and only a sound one is written.
+pub fn write_sheet(table: &[u64], sheet: &mut [u8]) -> Wrote
+    ensures { λ r. ⌜ WritePromise (now (table .entry)) (now (sheet .entry)) (now (sheet .exit)) r ⌝ }
+{
+    let Checked::Bad(fault) = faults::check_table(table) else {
+        return fill_sheet(table, sheet);
+    };
+    Wrote::Bad(fault)
 }

@@ -17,12 +17,6 @@ use Rattle.sheets.specs.Sheets.{sheetText}
 use Rattle.sheets.proofs.Writing.{recordText, textFrom, next-line, length-next, no-line, few-records, past-end, same-room, goes-on, nothing-left}
 use Rattle.sheets.proofs.put_lines.Statement.{statement}
 use Rattle.sheets.proofs.put_lines.Tie as tie
-use Rattle.sheets.proofs.put_lines.Reads as reads
-use Rattle.sheets.proofs.put_lines.Lts as lts
-use Rattle.lines.proofs.put_line.Reads as put-line-reads
-use Rattle.tables.proofs.level.Reads as level-reads
-use Rattle.tables.proofs.members.Reads as members-reads
-use Rattle.tables.proofs.threshold.Reads as threshold-reads
 
 abbrev Inv-loop : tie.InvT-loop
 Inv-loop table sheet₀ at₀ r₀ sheet at r =
@@ -64,54 +58,42 @@ written : (c : tie.After-put-line Inv-loop μ-loop) →
     (c .put-line .last .0) (c .put-line .result)
 written c = rw (← line (c .before .before)) (c .put-line .ensures)
 
--- src/lib.rt:82:5
 loop-holds : tie.Need-loop-holds Inv-loop μ-loop
 loop-holds c = (omega arith, refl, zero-add (length (sheetText (c .before .before .args .table .now))), refl)
 
--- src/lib.rt:83:13
 level-requires : tie.Need-level-requires Inv-loop μ-loop
 level-requires c κs = reached c
 
--- src/lib.rt:84:13
 threshold-requires : tie.Need-threshold-requires Inv-loop μ-loop
 threshold-requires c κs = reached (c .before)
 
--- src/lib.rt:85:13
 members-requires : tie.Need-members-requires Inv-loop μ-loop
 members-requires c κs = reached (c .before .before)
 
--- src/lib.rt:86:31
 sub-put-line : tie.Need-sub-put-line Inv-loop μ-loop
 sub-put-line c = let f = fits (c .before .before .before) in omega arith
 
--- src/lib.rt:86:31
 part-put-line-start : tie.Need-part-put-line-start Inv-loop μ-loop
 part-put-line-start c = let f = fits (c .before .before .before) in omega arith
 
--- src/lib.rt:86:31
 part-put-line-end : tie.Need-part-put-line-end Inv-loop μ-loop
 part-put-line-end c = search needs
 
--- src/lib.rt:86:15
 put-line-requires : tie.Need-put-line-requires Inv-loop μ-loop
 put-line-requires c κs =
     let l = c .before .before .before .before .before in
     let f = fits (c .before .before .before .before) in
     rw (line (c .before), rest (l .loop .sheet) (l .loop .at)) (omega (arith, length-drop (l .loop .at) (l .loop .sheet)))
 
--- src/lib.rt:86:9
 add-at : tie.Need-add-at Inv-loop μ-loop
 add-at c = let f = fits (c .before .before .before .before .before .before .before) in omega (arith, written (c .before .before) .count)
 
--- src/lib.rt:87:9
 add-r : tie.Need-add-r Inv-loop μ-loop
 add-r c = let i = inside (c .before .before .before .before .before .before .before) in omega arith
 
--- src/lib.rt:82:5
 loop-less : tie.Need-loop-less Inv-loop μ-loop
 loop-less c = let i = inside (c .before .before .before .before .before .before .before) in omega arith
 
--- src/lib.rt:82:5
 loop-again : tie.Need-loop-again Inv-loop μ-loop
 loop-again c =
     let p = c .before .before in
@@ -129,11 +111,9 @@ loop-again c =
       go ∙ ap (λ (x : List ℕ). atPlace (l .loop .at) x (l .loop .sheet)) (sym (next-line t r (reached i))) ∙ l .loop .inv .3,
     )
 
--- src/lib.rt:76:1
 same-length : tie.Need-same-length Inv-loop μ-loop
 same-length c = c .before .loop .inv .1
 
--- src/lib.rt:76:1
 returns : tie.Need-returns Inv-loop μ-loop
 unfolding records
 returns c =

@@ -10,8 +10,6 @@ use lib.ListN.{length, getD, set}
 use lib.Seq.{paste, paste-suc, length-paste, take-length}
 use Rattle.sheets.proofs.put_words.Statement.{statement}
 use Rattle.sheets.proofs.put_words.Tie as tie
-use Rattle.sheets.proofs.put_words.Reads as reads
-use Rattle.sheets.proofs.put_words.Lts as lts
 
 abbrev Inv-loop : tie.InvT-loop
 Inv-loop words table₀ i₀ table i = (i ≤ length words) × (table ≡ paste table₀ 0 words i)
@@ -19,26 +17,21 @@ Inv-loop words table₀ i₀ table i = (i ≤ length words) × (table ≡ paste 
 abbrev μ-loop : tie.MeasureT-loop
 μ-loop words table₀ i₀ table i = length words - i
 
--- src/lib.rt:55:5
 loop-holds : tie.Need-loop-holds Inv-loop μ-loop
 loop-holds c = (omega arith, refl)
 
 one-more : (d w : List ℕ) (i : ℕ) → i < length d → i < length w → set (paste d 0 w i) i (getD w i 0) ≡ paste d 0 w (suc i)
 one-more d w i h f = ap (λ (k : ℕ). set (paste d 0 w i) k (getD w i 0)) (sym (zero-add i)) ∙ paste-suc d 0 w i 0 (omega arith) f
 
--- src/lib.rt:56:20
 mul-table : tie.Need-mul-table Inv-loop μ-loop
 mul-table c = omega arith
 
--- src/lib.rt:56:20
 shared-slice-read-table : tie.Need-shared-slice-read-table Inv-loop μ-loop
 shared-slice-read-table c = omega arith
 
--- src/lib.rt:56:9
 mul-table-2 : tie.Need-mul-table-2 Inv-loop μ-loop
 mul-table-2 c = omega arith
 
--- src/lib.rt:56:9
 slice-write-table : tie.Need-slice-write-table Inv-loop μ-loop
 slice-write-table c =
     let l = c .before .before in
@@ -46,15 +39,12 @@ slice-write-table c =
     ap length (l .loop .inv .1) ∙ length-paste (l .before .args .table .now) 0 (l .before .args .words .now) (l .loop .i) (omega arith) (omega arith) in
     omega arith
 
--- src/lib.rt:57:9
 add-i : tie.Need-add-i Inv-loop μ-loop
 add-i c = omega arith
 
--- src/lib.rt:55:5
 loop-less : tie.Need-loop-less Inv-loop μ-loop
 loop-less c = omega arith
 
--- src/lib.rt:55:5
 loop-again : tie.Need-loop-again Inv-loop μ-loop
 loop-again c =
     let l = c .before .before in
@@ -62,13 +52,11 @@ loop-again c =
     let w = l .before .args .words .now in
     (omega arith, rw (l .loop .inv .1, add-one) (one-more d w (l .loop .i) (omega arith) (omega arith)))
 
--- src/lib.rt:50:1
 same-length : tie.Need-same-length Inv-loop μ-loop
 same-length c =
     let l = c .before in
     ap length (l .loop .inv .1) ∙ length-paste (l .before .args .table .now) 0 (l .before .args .words .now) (l .loop .i) (omega arith) (omega arith)
 
--- src/lib.rt:50:1
 returns : tie.Need-returns Inv-loop μ-loop
 returns c =
     let l = c .before in

@@ -12,12 +12,6 @@ use Rattle.sheets.specs.Sheets.{sheetText}
 use Rattle.sheets.proofs.Writing.{recordText, textFrom, length-next, no-line, few-records, past-end, short-line}
 use Rattle.sheets.proofs.sheet_len.Statement.{statement}
 use Rattle.sheets.proofs.sheet_len.Tie as tie
-use Rattle.sheets.proofs.sheet_len.Reads as reads
-use Rattle.sheets.proofs.sheet_len.Lts as lts
-use Rattle.lines.proofs.line_len.Reads as line-len-reads
-use Rattle.tables.proofs.level.Reads as level-reads
-use Rattle.tables.proofs.members.Reads as members-reads
-use Rattle.tables.proofs.threshold.Reads as threshold-reads
 
 abbrev Inv-loop : tie.InvT-loop
 Inv-loop table need₀ r₀ need r = (r ≤ records table) × (need ≤ 188 * r) × (need + length (textFrom table r) ≡ length (sheetText table))
@@ -58,43 +52,33 @@ more c =
     let w = line c in
     (omega arith, omega arith, omega (arith, length-next t (l .loop .r) (reached i)))
 
--- src/lib.rt:68:5
 loop-holds : tie.Need-loop-holds Inv-loop μ-loop
 loop-holds c = (omega arith, omega arith, zero-add (length (sheetText (c .before .args .table .now))))
 
--- src/lib.rt:69:33
 level-requires : tie.Need-level-requires Inv-loop μ-loop
 level-requires c κs = reached c
 
--- src/lib.rt:69:58
 threshold-requires : tie.Need-threshold-requires Inv-loop μ-loop
 threshold-requires c κs = reached (c .before)
 
--- src/lib.rt:69:87
 members-requires : tie.Need-members-requires Inv-loop μ-loop
 members-requires c κs = reached (c .before .before)
 
--- src/lib.rt:69:17
 line-len-requires : tie.Need-line-len-requires Inv-loop μ-loop
 line-len-requires c κs = search needs
 
--- src/lib.rt:69:9
 add-need : tie.Need-add-need Inv-loop μ-loop
 add-need c = let m = more c in omega arith
 
--- src/lib.rt:70:9
 add-r : tie.Need-add-r Inv-loop μ-loop
 add-r c = let m = more c in omega arith
 
--- src/lib.rt:68:5
 loop-less : tie.Need-loop-less Inv-loop μ-loop
 loop-less c = let i = inside (c .before .before .before .before) in omega arith
 
--- src/lib.rt:68:5
 loop-again : tie.Need-loop-again Inv-loop μ-loop
 loop-again c = let i = inside (c .before .before .before .before) in let m = more c in (omega arith, m .1, m .2)
 
--- src/lib.rt:62:1
 returns : tie.Need-returns Inv-loop μ-loop
 unfolding records
 returns c =

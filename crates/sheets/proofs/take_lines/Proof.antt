@@ -11,9 +11,6 @@ use Rattle.sheets.specs.Sheets.{sheetLines}
 use Rattle.sheets.proofs.Taking.{TakenUpTo, all-taken, surplus, malformed, one-more, line-some, before-nothing}
 use Rattle.sheets.proofs.take_lines.Statement.{statement}
 use Rattle.sheets.proofs.take_lines.Tie as tie
-use Rattle.sheets.proofs.take_lines.Reads as reads
-use Rattle.sheets.proofs.take_lines.Lts as lts
-use Rattle.lines.proofs.line_at.Reads as line-at-reads
 
 abbrev Inv-loop : tie.InvT-loop
 Inv-loop sheet words₀ at₀ r₀ words at r = (at ≤ length sheet) × (r ≤ 256) × (length words ≡ 512) × TakenUpTo sheet words at r
@@ -39,43 +36,34 @@ fits c =
     let n = line-some _ _ _ _ _ (good c) in
     (w .level, w .threshold, n .0, omega (arith, length-drop (l .loop .at) s), omega arith)
 
--- src/lib.rt:27:5
 loop-holds : tie.Need-loop-holds Inv-loop μ-loop
 unfolding sheetLines
 loop-holds c = (omega arith, omega arith, c .before .before .pre, sym (before-nothing (sheetLines (c .before .before .args .sheet .now))))
 
--- src/lib.rt:29:13
 same-length : tie.Need-same-length Inv-loop μ-loop
 same-length c = search needs
 
--- src/lib.rt:29:13
 returns : tie.Need-returns Inv-loop μ-loop
 returns c =
     let l = c .before .before in
     let s = l .before .before .before .args .sheet .now in
     rw (surplus s (l .loop .words) (l .loop .at) (l .loop .r) (l .loop .inv .3) (c .before .loop-test .taken) (c .if1 .taken)) refl
 
--- src/lib.rt:36:13
 line-at-requires : tie.Need-line-at-requires Inv-loop μ-loop
 line-at-requires c κs = omega arith
 
--- src/lib.rt:32:13
 enum-known-level : tie.Need-enum-known-level Inv-loop μ-loop
 enum-known-level c = search needs
 
--- src/lib.rt:38:44
 enum-told : tie.Need-enum-told Inv-loop μ-loop
 enum-told c = search needs
 
--- src/lib.rt:38:44
 add-t14 : tie.Need-add-t14 Inv-loop μ-loop
 add-t14 c = omega arith
 
--- src/lib.rt:38:13
 same-length-2 : tie.Need-same-length-2 Inv-loop μ-loop
 same-length-2 c = search needs
 
--- src/lib.rt:38:13
 returns-2 : tie.Need-returns-2 Inv-loop μ-loop
 returns-2 c =
     let r = c .before .before in
@@ -83,58 +71,45 @@ returns-2 c =
     let s = l .before .before .before .args .sheet .now in
     rw (malformed s (l .loop .words) (l .loop .at) (l .loop .r) (l .loop .inv .3) (r .before .before .loop-test .taken) (omega arith) (sym (r .line-at .ensures) ∙ c .enum-told .given .1)) refl
 
--- src/lib.rt:40:36
 mul-words : tie.Need-mul-words Inv-loop μ-loop
 mul-words c = let f = fits c in omega arith
 
--- src/lib.rt:40:24
 add-words : tie.Need-add-words Inv-loop μ-loop
 add-words c = let f = fits c in omega arith
 
--- src/lib.rt:40:15
 mul-words-2 : tie.Need-mul-words-2 Inv-loop μ-loop
 mul-words-2 c = let f = fits c in omega arith
 
--- src/lib.rt:40:9
 mul-words-3 : tie.Need-mul-words-3 Inv-loop μ-loop
 mul-words-3 c = let f = fits c in omega arith
 
--- src/lib.rt:40:9
 slice-write-words : tie.Need-slice-write-words Inv-loop μ-loop
 slice-write-words c = let f = fits c in omega arith
 
--- src/lib.rt:41:15
 mul-words-4 : tie.Need-mul-words-4 Inv-loop μ-loop
 mul-words-4 c = let f = fits c in omega arith
 
--- src/lib.rt:41:15
 add-words-2 : tie.Need-add-words-2 Inv-loop μ-loop
 add-words-2 c = let f = fits c in omega arith
 
--- src/lib.rt:41:9
 mul-words-5 : tie.Need-mul-words-5 Inv-loop μ-loop
 mul-words-5 c = let f = fits c in omega arith
 
--- src/lib.rt:41:9
 slice-write-words-2 : tie.Need-slice-write-words-2 Inv-loop μ-loop
 slice-write-words-2 c =
     let l = c .before .before .before .before .before .before in
     let f = fits c in
     omega (arith, length-set (l .loop .words) (2 * l .loop .r) (c .before .level .given .0 .1 .0 + 256 * c .before .level .given .0 .0))
 
--- src/lib.rt:42:9
 add-at : tie.Need-add-at Inv-loop μ-loop
 add-at c = let f = fits c in omega arith
 
--- src/lib.rt:43:9
 add-r : tie.Need-add-r Inv-loop μ-loop
 add-r c = let f = fits c in omega arith
 
--- src/lib.rt:27:5
 loop-less : tie.Need-loop-less Inv-loop μ-loop
 loop-less c = let f = fits c in omega arith
 
--- src/lib.rt:27:5
 loop-again : tie.Need-loop-again Inv-loop μ-loop
 loop-again c =
     let l = c .before .before .before .before .before .before in
@@ -152,15 +127,12 @@ loop-again c =
       one-more s w (l .loop .at) (l .loop .r) (l .loop .inv .3) (g .0) (g .1 .0) (g .1 .1 .0) (g .1 .1 .1 .0) (f .4) (omega arith) (good c),
     )
 
--- src/lib.rt:46:16
 mul-t22 : tie.Need-mul-t22 Inv-loop μ-loop
 mul-t22 c = omega arith
 
--- src/lib.rt:21:1
 same-length-3 : tie.Need-same-length-3 Inv-loop μ-loop
 same-length-3 c = search needs
 
--- src/lib.rt:21:1
 returns-3 : tie.Need-returns-3 Inv-loop μ-loop
 returns-3 c =
     let l = c .before in

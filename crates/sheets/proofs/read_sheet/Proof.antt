@@ -1,0 +1,112 @@
+-- What stops the lines is handed on, and so is a fault of their records; the words of a sound table are put.
+use borrow.Author.Needs.{needs}
+use native.Mathlib.Omega.{arith}
+use Prim.Native.Nat.{_≤_}
+use mathlib.Core.Path.{_≡_, sym}
+use lib.ListN.{length, take}
+use lib.Seq.{length-take-le}
+use Rattle.meanings.specs.Faults.{check, sound}
+use Rattle.answers.specs.Said.{faultSays, readSays}
+use Rattle.sheets.specs.Sheets.{words, sheetLines, roomReply}
+use Rattle.sheets.proofs.Filling.{taken-words, not-counted, read-stops, read-goes, checked-sound, checked-bad}
+use Rattle.sheets.proofs.read_sheet.Statement.{statement}
+use Rattle.sheets.proofs.read_sheet.Tie as tie
+
+slice-aggregate-take-lines : tie.Need-slice-aggregate-take-lines
+slice-aggregate-take-lines c = search needs
+
+take-lines-requires : tie.Need-take-lines-requires
+take-lines-requires c κs = search needs
+
+-- the words of the lines
+counted : (c : tie.After-known-told) →
+    let t = c .before .before .before .before in
+    (sheetLines (t .before .before .before .before .args .sheet .now) ≡ words (take (c .before .taken .given .0 .0) (t .take-lines .last .1 .0)))
+    × (c .before .taken .given .0 .0 ≤ length (t .take-lines .last .1 .0))
+counted c =
+    let t = c .before .before .before .before in
+    taken-words (sheetLines (t .before .before .before .before .args .sheet .now)) (t .take-lines .last .1 .0) (t .take-lines .result) (c .before .taken .given .0 .0)
+    (t .take-lines .ensures) (c .before .taken .given .1)
+
+enum-known-taken : tie.Need-enum-known-taken
+enum-known-taken c = search needs
+
+returns : tie.Need-returns
+returns c =
+    let t = c .before .before in
+    let a = t .before .before .before .before .args in
+    read-stops (a .sheet .now) (a .table .now) (t .take-lines .last .1 .0) (t .take-lines .result) (t .take-lines .ensures) (not-counted (t .take-lines .result) (c .match .keys2))
+
+array-share-prefix-words : tie.Need-array-share-prefix-words
+array-share-prefix-words c = counted c .1
+
+slice-aggregate-check-table : tie.Need-slice-aggregate-check-table
+slice-aggregate-check-table c =
+    let k = c .before in
+    sym (length-take-le (k .before .taken .given .0 .0) (k .before .before .before .before .take-lines .last .1 .0) (counted k .1))
+
+check-table-requires : tie.Need-check-table-requires
+check-table-requires c κs = search needs
+
+enum-known-fault : tie.Need-enum-known-fault
+enum-known-fault c = search needs
+
+enum-told : tie.Need-enum-told
+enum-told c = search needs
+
+array-share-prefix-words-2 : tie.Need-array-share-prefix-words-2
+array-share-prefix-words-2 c = counted (c .before .before .before .before) .1
+
+slice-aggregate-fill-table : tie.Need-slice-aggregate-fill-table
+slice-aggregate-fill-table c =
+    let k = c .before .before .before .before .before in
+    sym (length-take-le (k .before .taken .given .0 .0) (k .before .before .before .before .take-lines .last .1 .0) (counted k .1))
+
+fill-table-requires : tie.Need-fill-table-requires
+fill-table-requires c κs = search needs
+
+same-length : tie.Need-same-length
+same-length c = search needs
+
+returns-2 : tie.Need-returns-2
+returns-2 c =
+    let p = c .before .before in
+    let e = p .before .before .before in
+    let h = e .before .before in
+    let k = h .before .before in
+    let t = k .before .before .before .before in
+    let a = t .before .before .before .before .args in
+    let w = take (k .before .taken .given .0 .0) (t .take-lines .last .1 .0) in
+    let s : check w ≡ sound = checked-sound w (h .check-table .result) (h .check-table .ensures) _ _ (e .enum-told .given .1) in
+    read-goes (a .sheet .now) (a .table .now) w (counted k .0) (p .fill-table .last .1 .0) (readSays (p .fill-table .result)) (rw s (p .fill-table .ensures))
+
+returns-3 : tie.Need-returns-3
+returns-3 c =
+    let h = c .before .before .before in
+    let k = h .before .before in
+    let t = k .before .before .before .before in
+    let a = t .before .before .before .before .args in
+    let w = take (k .before .taken .given .0 .0) (t .take-lines .last .1 .0) in
+    let f = c .before .fault .given in
+    read-goes (a .sheet .now) (a .table .now) w (counted k .0) (a .table .now) (faultSays (f .0 .0))
+    (checked-bad w (h .check-table .result) (h .check-table .ensures) (f .0 .0) (f .1) w (a .table .now) (roomReply w (length (a .table .now))))
+
+pub read-sheet-spec : {M : Type 1} → statement M
+read-sheet-spec =
+    tie.close
+    (tie.spec
+    slice-aggregate-take-lines
+    take-lines-requires
+    enum-known-taken
+    returns
+    array-share-prefix-words
+    slice-aggregate-check-table
+    check-table-requires
+    enum-known-fault
+    enum-told
+    array-share-prefix-words-2
+    slice-aggregate-fill-table
+    fill-table-requires
+    same-length
+    returns-2
+    returns-3)

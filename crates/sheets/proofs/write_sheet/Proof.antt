@@ -1,0 +1,56 @@
+-- A fault of the table is handed on, and a sound table is put.
+use borrow.Author.Needs.{needs}
+use lib.ListN.{length}
+use Rattle.meanings.specs.Faults.{check, sound}
+use mathlib.Core.Path.{_≡_}
+use Rattle.sheets.specs.Sheets.{sheetText, roomReply, writeReply}
+use Rattle.sheets.proofs.Filling.{checked-sound, checked-bad}
+use Rattle.sheets.proofs.write_sheet.Statement.{statement}
+use Rattle.sheets.proofs.write_sheet.Tie as tie
+
+check-table-requires : tie.Need-check-table-requires
+check-table-requires c κs = search needs
+
+enum-known-fault : tie.Need-enum-known-fault
+enum-known-fault c = search needs
+
+enum-told : tie.Need-enum-told
+enum-told c = search needs
+
+-- the table is sound
+found : (c : tie.After-enum-told) → check (c .before .before .before .before .before .args .table .now) ≡ sound
+found c =
+    let k = c .before .before in
+    checked-sound (k .before .before .before .args .table .now) (k .check-table .result) (k .check-table .ensures) _ _ (c .enum-told .given .1)
+
+fill-sheet-requires : tie.Need-fill-sheet-requires
+fill-sheet-requires c κs = found (c .before)
+
+same-length : tie.Need-same-length
+same-length c = search needs
+
+returns : tie.Need-returns
+unfolding writeReply
+returns c =
+    let p = c .before .before in
+    rw (found (p .before .before)) (p .fill-sheet .ensures)
+
+returns-2 : tie.Need-returns-2
+unfolding writeReply
+returns-2 c =
+    let k = c .before .before .before in
+    let a = k .before .before .before .args in
+    checked-bad (a .table .now) (k .check-table .result) (k .check-table .ensures) (c .before .fault .given .0 .0) (c .before .fault .given .1) (sheetText (a .table .now)) (a .sheet .now)
+    (roomReply (sheetText (a .table .now)) (length (a .sheet .now)))
+
+pub write-sheet-spec : {M : Type 1} → statement M
+write-sheet-spec =
+    tie.close
+    (tie.spec
+    check-table-requires
+    enum-known-fault
+    enum-told
+    fill-sheet-requires
+    same-length
+    returns
+    returns-2)
