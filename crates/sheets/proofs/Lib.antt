@@ -1,3 +1,4 @@
 pub mod Taking
 pub mod Writing
 pub mod Filling
+pub mod Round
