@@ -2,3 +2,5 @@ pub mod Taking
 pub mod Writing
 pub mod Filling
 pub mod Round
+pub mod Numbers
+pub mod Trips
