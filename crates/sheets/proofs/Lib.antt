@@ -4,3 +4,5 @@ pub mod Filling
 pub mod Round
 pub mod Numbers
 pub mod Trips
+pub mod Bounds
+pub mod Exact

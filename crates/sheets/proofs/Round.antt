@@ -21,7 +21,7 @@ use Rattle.sheets.specs.Sheets.{Taken, words, stops, before, takeLines, 
 use Rattle.sheets.proofs.Taking.{no-more, one-too-many, bad-line, good-line}
 use Rattle.sheets.proofs.Writing.{textFrom, recordText, next-line, no-line, past-end}
 
-never : (k p : ℕ) (w : List ℕ) {P : Type 0} → stops k p ≡ words w → P
+pub never : (k p : ℕ) (w : List ℕ) {P : Type 0} → stops k p ≡ words w → P
 never k p w e = let z : _≡_ {A = ℕ} 0 1 = cc in absurd (omega arith)
 
 nothing : (s : List ℕ) → length s ≤ 0 → s ≡ []
