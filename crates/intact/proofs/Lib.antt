@@ -1,0 +1,3 @@
+pub mod Allowance
+pub mod Rounds
+pub mod Meaning

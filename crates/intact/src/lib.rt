@@ -1,0 +1,155 @@
+// Who is intact, for a set of ill nodes? The rounds that find the intact nodes (document 01, 'The search trees', Intact), within an
+// allowance of visits that serves all their verdicts in turn.
+ghost use mathlib.Core.Path.{_≡_};
+ghost use mathlib.Core.Bool.{true};
+ghost use Prim.Native.Nat.{ℕ, suc, _<_, _^_};
+ghost use Rattle.sets.specs.Sets.{nobody, everyone, _∖_, within as withinSet};
+ghost use Rattle.meanings.specs.Table.{nodes as nodesOf, satisfied};
+ghost use Rattle.meanings.specs.Faults.{check, sound};
+ghost use Rattle.meanings.specs.Trees.{walk, verdictTree};
+ghost use Rattle.meanings.specs.Intact.{nextU, roundsFrom, intactSearch};
+ghost use Rattle.groups.specs.Groups.{Grouped};
+ghost use Rattle.rounds.specs.Rounds.{Ground};
+ghost use Rattle.verdict.specs.Search.{within as verdictWithin};
+ghost use Rattle.intact.specs.Rounds.{Asked, Turned, within, handedOn, onYes, onNo};
+use answers::Intact;
+use answers::Verdict;
+
+// What a round comes to: the end of the question, or the set to go on from and the visits so far.
+pub enum Turn {
+    Ended(Intact),
+    Next { u: u64, visits: u64 },
+}
+
+// What a verdict that is neither yes nor no hands on.
+fn handed_on(found: Verdict) -> Intact
+    ensures { λ o. ⌜ o ≡ handedOn found ⌝ }
+{
+    let Verdict::Spent { visits } = found else {
+        return Intact::Unsplit;
+    };
+    Intact::Spent { visits }
+}
+
+// The end of the rounds at a verdict other than no: where it is yes, q is the answer.
+fn settled(q: u64, found: Verdict) -> Intact
+    ensures { λ o. ⌜ o ≡ onYes q found ⌝ }
+{
+    let Verdict::Yes { visits } = found else {
+        return handed_on(found);
+    };
+    Intact::Are { set: q, visits }
+}
+
+// The end of the question at a plain verdict other than yes: where it is no, the system is divided.
+fn divided(found: Verdict) -> Intact
+    ensures { λ o. ⌜ o ≡ onNo found ⌝ }
+{
+    let Verdict::No {
+        first,
+        second,
+        visits,
+    } = found
+    else {
+        return handed_on(found);
+    };
+    Intact::Divided {
+        first,
+        second,
+        visits,
+    }
+}
+
+// Do all quorums of q intersect, with all but q counted out?
+fn verdict_of(
+    t: &[u64],
+    plan: &[u64],
+    groups: usize,
+    all: u64,
+    q: u64,
+    allowance: u64,
+    spent: u64,
+) -> Verdict
+    requires { ⌜ Asked (now t) (now plan) groups all q ⌝ }
+    ensures { λ o. ⌜ o ≡ verdictWithin allowance spent (walk (verdictTree (nodesOf (now (t .entry))) (satisfied (now (t .entry))) (everyone (nodesOf (now (t .entry))) ∖ q))) ⌝ }
+{
+    let out = sets::without(all, q);
+    let half = sets::count(q) / 2;
+    verdict::search(t, plan, groups, out, q, half, 0, q, allowance, spent)
+}
+
+// Where to go on after a round that found two quorums apart in q: W1 and W2 are the greatest plain quorums in q without the first and
+// without the second; W2 if W1 is empty, W1 if W2 is empty, otherwise what they share.
+fn next(t: &[u64], plan: &[u64], groups: usize, q: u64, first: u64, second: u64) -> u64
+    requires { ⌜ Ground (now t) (now plan) groups q ⌝ }
+    ensures { λ o. ⌜ o ≡ nextU (nodesOf (now (t .entry))) (satisfied (now (t .entry))) q (record { first = first; second = second }) ⌝ }
+{
+    let w1 = rounds::survivors(t, plan, groups, 0, sets::without(q, first)).set;
+    let w2 = rounds::survivors(t, plan, groups, 0, sets::without(q, second)).set;
+    if w1 == 0 {
+        return w2;
+    }
+    if w2 == 0 {
+        return w1;
+    }
+    w1 & w2
+}
+
+// One round from u on, after so many visits: q is the greatest plain quorum in u, and the verdict with all but q counted out decides.
+fn round(
+    t: &[u64],
+    plan: &[u64],
+    groups: usize,
+    all: u64,
+    u: u64,
+    allowance: u64,
+    spent: u64,
+) -> Turn
+    requires { ⌜ Asked (now t) (now plan) groups all u ⌝ }
+    ensures { λ o. ⌜ Turned (now (t .entry)) u allowance spent o ⌝ }
+{
+    let q = rounds::survivors(t, plan, groups, 0, u).set;
+    let found = verdict_of(t, plan, groups, all, q, allowance, spent);
+    let Verdict::No {
+        first,
+        second,
+        visits,
+    } = found
+    else {
+        return Turn::Ended(settled(q, found));
+    };
+    Turn::Next {
+        u: next(t, plan, groups, q, first, second),
+        visits,
+    }
+}
+
+// The rounds from u on, after so many visits. A round that is not the last leaves fewer nodes, so the rounds end.
+pub fn rounds_from(
+    t: &[u64],
+    plan: &[u64],
+    groups: usize,
+    all: u64,
+    u: u64,
+    allowance: u64,
+    spent: u64,
+) -> Intact
+    requires { ⌜ Asked (now t) (now plan) groups all u ⌝ }
+    ensures { λ o. ⌜ o ≡ within allowance spent (roundsFrom (nodesOf (now (t .entry))) (satisfied (now (t .entry))) (suc (nodesOf (now (t .entry)))) u) ⌝ }
+{
+    let mut left = u;
+    let mut visits = spent;
+    loop {
+        let turn = round(t, plan, groups, all, left, allowance, visits);
+        match turn {
+            Turn::Ended(answer) => return answer,
+            Turn::Next {
+                u: after,
+                visits: so_far,
+            } => {
+                left = after;
+                visits = so_far;
+            }
+        }
+    }
+}
