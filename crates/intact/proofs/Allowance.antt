@@ -1,6 +1,6 @@
 -- The answer within an allowance, put together verdict by verdict: one that ends the question ends it within the allowance too, and one
 -- that does not hands its visits on. Visits only grow, so an allowance that has ended stays ended.
-use mathlib.Core.Path.{_≡_, refl, sym, ap, _∙_, subst}
+use mathlib.Core.Path.{_≡_, refl, sym, ap, ap₂, _∙_, subst}
 use mathlib.Core.Bool.{Bool, true, false, cond}
 use Prim.Native.Nat.{ℕ, suc, _+_, _≤_, _<_}
 use native.Mathlib.Omega.{arith}
@@ -113,7 +113,7 @@ module _ (allowance spent : ℕ) where
   pub said-yes : (w : Walk Pair) (k : ℕ) → Vx.Yes k ≡ verdictWithin allowance spent w → (j : ℕ) × (w ≡ missed j) × (k ≡ spent + j)
   said-yes (missed j) k e = go (leb (spent + j) allowance) e
     where
-      go : (b : Bool) → Vx.Yes k ≡ cond b (Vx.Yes (spent + j)) (Vx.Spent allowance) → (i : ℕ) × (missed j ≡ missed i) × (k ≡ spent + i)
+      go : (b : Bool) → Vx.Yes k ≡ cond b (Vx.Yes (spent + j)) (Vx.Spent allowance) → (i : ℕ) × (_≡_ {A = Walk Pair} (missed j) (missed i)) × (k ≡ spent + i)
       go true q = let z : k ≡ spent + j = cc in (j, refl, z)
       go false q = absurd (subst NotYes (sym q) tt)
   said-yes (hit p j) k e = absurd (subst NotYes (sym e) (go (leb (spent + j) allowance)))
@@ -131,13 +131,16 @@ module _ (allowance spent : ℕ) where
       → (j : ℕ) × (w ≡ hit (record { first = p; second = q }) j) × (k ≡ spent + j)
   said-no (hit x j) p q k e = go (leb (spent + j) allowance) e
     where
+      pair : ℕ → ℕ → Walk Pair
+      pair a b = hit (record { first = a; second = b }) j
+
       go : (b : Bool) → Vx.No p q k ≡ cond b (Vx.No (x .first) (x .second) (spent + j)) (Vx.Spent allowance)
-          → (i : ℕ) × (hit x j ≡ hit (record { first = p; second = q }) i) × (k ≡ spent + i)
+          → (i : ℕ) × (_≡_ {A = Walk Pair} (hit x j) (hit (record { first = p; second = q }) i)) × (k ≡ spent + i)
       go true z =
           let a : x .first ≡ p = cc in
           let b : x .second ≡ q = cc in
           let c : k ≡ spent + j = cc in
-          (j, mathlib.Core.Path.ap₂ (λ (y z : ℕ). hit (record { first = y; second = z }) j) a b, c)
+          (j, ap₂ pair a b, c)
       go false z = absurd (subst NotNo (sym z) tt)
   said-no (missed j) p q k e = absurd (subst NotNo (sym e) (go (leb (spent + j) allowance)))
     where

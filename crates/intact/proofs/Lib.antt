@@ -1,3 +1,4 @@
 pub mod Allowance
+pub mod Taken
 pub mod Rounds
 pub mod Meaning

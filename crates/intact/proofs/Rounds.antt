@@ -1,12 +1,14 @@
 -- The rounds end: a round that is not the last leaves fewer nodes. So a larger bound on them changes nothing, and the rounds from where
 -- one leaves off, within the bound of all, answer what is left.
-use mathlib.Core.Path.{_≡_, refl, sym, ap, _∙_, subst}
+use mathlib.Core.Path.{_≡_, refl, sym, ap, ap₂, _∙_, subst}
 use mathlib.Core.Bool.{Bool, true, false}
 use mathlib.Core.List.{List}
 use Prim.Native.Nat.{ℕ, zero, suc, _+_, _/_, _^_, _≤_, _<_}
 use native.Mathlib.Nat.{not-suc-le-zero}
 use native.Mathlib.Omega.{arith}
-use Rattle.sets.specs.Sets.{nobody, everyone, _∖_, size}
+use borrow.Author.Tests.{eq-eqb, ne-eqb}
+use lib.Pow.{pow-pos}
+use Rattle.sets.specs.Sets.{nobody, everyone, _∩_, _∖_, empty, size}
 use Rattle.sets.proofs.Size.{sub-size, size-le, size-at}
 use Rattle.meanings.specs.Table.{nodes, satisfied}
 use Rattle.meanings.specs.Quorums.{ground, greatest}
@@ -15,12 +17,14 @@ use Rattle.meanings.specs.Intact.{Ended, intactAre, endedLater, verdict, nextU,
 use Rattle.theory.proofs.Quorum.{Monotone}
 use Rattle.theory.proofs.Greatest.{greatest-lt, greatest-sub}
 use Rattle.theory.proofs.Verdict.{Sound, Decided, all-meet, two-apart, decided}
-use Rattle.theory.proofs.Intact.{rounds-step, next-lt, next-fewer}
+use Rattle.theory.proofs.Intact.{ground-others, rounds-step, next-lt, next-fewer}
+use Rattle.tables.proofs.Sound.{sound-table}
 use Rattle.judge.proofs.Monotone.{satisfied-monotone}
+use Rattle.answers.specs.declared.Verdict.{Verdict}
 use Rattle.answers.specs.declared.Verdict.the-variants as Vx
-use Rattle.verdict.specs.Search.{within as verdictWithin}
-use Rattle.intact.specs.Rounds.{within, roundsOf, Sequel}
-use Rattle.intact.proofs.Allowance.{after, said-no}
+use Rattle.verdict.specs.Search.{Visiting, treeOf, within as verdictWithin}
+use Rattle.intact.specs.Rounds.{Asked, within, onYes, roundsOf, Sequel}
+use Rattle.intact.proofs.Allowance.{NotNo, after, round-ends, said-no}
 
 module _ (n : ℕ) (s : ℕ → ℕ → Bool) (mono : Monotone s) where
   -- a verdict that finds a pair with all but q counted out leaves fewer than q has
@@ -68,25 +72,85 @@ module _ (n : ℕ) (s : ℕ → ℕ → Bool) (mono : Monotone s) where
           let h = found-fewer u x k e .1 in
           rounds-step n s (suc f) u (hit x k) e ∙ ap (endedLater k) (ih x (omega arith)) ∙ sym (rounds-step n s f u (hit x k) e)
 
--- where a round finds a pair, in time, the rounds go on from the next u
-pub goes-on : (t : List ℕ) (u allowance spent p q k : ℕ)
-    → Vx.No p q k ≡ verdictWithin allowance spent (verdict (nodes t) (satisfied t) (everyone (nodes t) ∖ greatest (nodes t) (satisfied t) nobody u))
-    → Sequel t u allowance spent (nextU (nodes t) (satisfied t) (greatest (nodes t) (satisfied t) nobody u) (record { first = p; second = q })) k
-goes-on t u allowance spent p q k e =
-    let n = nodes t in
-    let s = satisfied t in
-    let g = greatest n s nobody u in
-    let x : Pair = record { first = p; second = q } in
-    let w = said-no allowance spent (verdict n s (everyone n ∖ g)) p q k e in
-    let j = w .0 in
-    let f = found-fewer n s (satisfied-monotone t) u x j (w .1) in
-    let l = size-le n u in
-    let few : size n (nextU n s g x) < n = omega (arith, f .1) in
-    record {
-      inside = f .0;
-      fewer = f .1;
-      same = ap (λ (m : ℕ). within allowance m (roundsOf t (nextU n s g x))) (w .2)
-          ∙ after allowance spent j (roundsOf t (nextU n s g x))
-          ∙ ap (λ (y : Ended). within allowance spent (endedLater j y)) (larger-bound n s (satisfied-monotone t) n (nextU n s g x) few)
-          ∙ ap (within allowance spent) (sym (rounds-step n s n u (hit x j) (w .1)));
-    }
+-- ---- the next u, from W1 and W2
+module _ (n : ℕ) (s : ℕ → ℕ → Bool) (q : ℕ) (p : Pair) (w1 w2 : ℕ) (first-is : w1 ≡ greatest n s nobody (q ∖ p .first)) (second-is : w2 ≡ greatest n s nobody (q ∖ p .second)) where
+  abbrev choice : Bool → Bool → ℕ → ℕ → ℕ
+  choice a b x y = elim a [ true ↦ y | false ↦ elim b [ true ↦ x | false ↦ x ∩ y ] ]
+
+  chosen : (a b : Bool) → empty w1 ≡ a → empty w2 ≡ b → choice a b w1 w2 ≡ nextU n s q p
+  unfolding nextU
+  chosen a b e f =
+      ap₂ (λ (x y : Bool). choice x y w1 w2) (sym e) (sym f)
+      ∙ ap₂ (λ (x y : ℕ). choice (empty x) (empty y) x y) first-is second-is
+
+  pub first-empty : w1 ≡ 0 → w2 ≡ nextU n s q p
+  first-empty z = chosen true (empty w2) (eq-eqb w1 0 z) refl
+
+  pub second-empty : ¬ (w1 ≡ 0) → w2 ≡ 0 → w1 ≡ nextU n s q p
+  second-empty a z = chosen false true (ne-eqb w1 0 a) (eq-eqb w2 0 z)
+
+  pub shared : ¬ (w1 ≡ 0) → ¬ (w2 ≡ 0) → w1 ∩ w2 ≡ nextU n s q p
+  shared a b = chosen false false (ne-eqb w1 0 a) (ne-eqb w2 0 b)
+
+-- ---- the verdict of a round
+module _ (t : List ℕ) where
+  abbrev n : ℕ
+  n = nodes t
+
+  abbrev s : ℕ → ℕ → Bool
+  s = satisfied t
+
+  abbrev others : ℕ → ℕ
+  others q = everyone n ∖ q
+
+  -- what it asks of the search: with all but q counted out, the ground is q
+  pub visiting : (plan : List ℕ) (groups all q out count : ℕ) → Asked t plan groups all q → out ≡ all ∖ q → count ≡ size 64 q
+      → Visiting t plan groups out q (count / 2) nobody q
+  visiting plan groups all q out count a e f =
+      let n64 = sound-table t (a .grouped .checked) .nodes-le in
+      record {
+        grouped = a .grouped;
+        ground-is = sym (ground-others n s q (a .inside)) ∙ ap (ground n s) (sym (e ∙ ap (λ (x : ℕ). x ∖ q) (a .all-is)));
+        half-is = ap (λ (x : ℕ). x / 2) (f ∙ size-at n q (a .inside) 64 n64);
+        chosen = pow-pos n;
+        open-nodes = a .inside;
+      }
+
+  pub tree-is : (all q out : ℕ) → q < 2 ^ n → all ≡ everyone n → out ≡ all ∖ q → walk (treeOf t out nobody q) ≡ verdict n s (others q)
+  unfolding verdictTree
+  tree-is all q out h a e =
+      ap (λ (x : ℕ). walk (treeOf t x nobody q)) (e ∙ ap (λ (x : ℕ). x ∖ q) a)
+      ∙ ap (λ (x : ℕ). walk (treeOf t (others q) nobody x)) (sym (ground-others n s q h))
+
+  module _ (u allowance spent q : ℕ) (q-is : q ≡ greatest n s nobody u) (v : Verdict) (says : v ≡ verdictWithin allowance spent (verdict n s (others q))) where
+    verdict-is : v ≡ verdictWithin allowance spent (verdict n s (others (greatest n s nobody u)))
+    verdict-is = says ∙ ap (λ (x : ℕ). verdictWithin allowance spent (verdict n s (others x))) q-is
+
+    -- a round at a verdict other than no is the last
+    pub stops : NotNo v → onYes q v ≡ within allowance spent (roundsOf t u)
+    stops z =
+        let g = greatest n s nobody u in
+        ap (λ (x : ℕ). onYes x v) q-is
+        ∙ round-ends allowance spent n s g (verdict n s (others g)) (λ p. roundsFrom n s n (nextU n s g p)) v verdict-is z
+        ∙ ap (within allowance spent) (sym (rounds-step n s n u (verdict n s (others g)) refl))
+
+    -- where it finds a pair, in time, the rounds go on from the next u
+    pub goes-on : (a b k o : ℕ) → v ≡ Vx.No a b k → o ≡ nextU n s q (record { first = a; second = b }) → Sequel t u allowance spent o k
+    goes-on a b k o e f =
+        let g = greatest n s nobody u in
+        let x : Pair = record { first = a; second = b } in
+        let w = said-no allowance spent (verdict n s (others g)) a b k (sym e ∙ verdict-is) in
+        let j = w .0 in
+        let y : o ≡ nextU n s g x = f ∙ ap (λ (m : ℕ). nextU n s m x) q-is in
+        let h = found-fewer n s (satisfied-monotone t) u x j (w .1) in
+        let l = size-le n u in
+        let few : size n (nextU n s g x) < n = omega (arith, h .1) in
+        subst (λ (m : ℕ). Sequel t u allowance spent m k) (sym y)
+        (record {
+          inside = h .0;
+          fewer = h .1;
+          same = ap (λ (m : ℕ). within allowance m (roundsOf t (nextU n s g x))) (w .2)
+              ∙ after allowance spent j (roundsOf t (nextU n s g x))
+              ∙ ap (λ (z : Ended). within allowance spent (endedLater j z)) (larger-bound n s (satisfied-monotone t) n (nextU n s g x) few)
+              ∙ ap (within allowance spent) (sym (rounds-step n s n u (hit x j) (w .1)));
+        })

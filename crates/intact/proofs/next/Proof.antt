@@ -1,3 +1,13 @@
+-- W1 and W2 are the greatest plain quorums, and each way out is one of the three ways of the definition.
+use mathlib.Core.Path.{_≡_, sym, ap, _∙_, subst}
+use mathlib.Core.List.{List}
+use Prim.Native.Nat.{ℕ, _^_, _<_}
+use Rattle.sets.specs.Sets.{nobody, _∖_}
+use Rattle.sets.proofs.Members.{∖-lt}
+use Rattle.meanings.specs.Table.{nodes, satisfied}
+use Rattle.meanings.specs.Quorums.{greatest}
+use Rattle.rounds.specs.Rounds.{Ground}
+use Rattle.intact.proofs.Rounds.{first-empty, second-empty, shared}
 use borrow.Author.Needs.{needs}
 use Rattle.intact.proofs.next.Statement.{statement}
 use Rattle.intact.proofs.next.Tie as tie
@@ -6,33 +16,56 @@ use Rattle.intact.proofs.next.Lts as lts
 use Rattle.rounds.proofs.survivors.Reads as survivors-reads
 use Rattle.sets.proofs.without.Reads as without-reads
 
--- src/lib.rt:87:52
+-- what q has left without one of the two is a set of nodes
+part : (t plan : List ℕ) (groups q x o : ℕ) → Ground t plan groups q → o ≡ q ∖ x → Ground t plan groups o
+part t plan groups q x o g e =
+    record { grouped = g .grouped; inside = subst (λ (y : ℕ). y < 2 ^ nodes t) (sym e) (∖-lt (nodes t) q x (g .inside)) }
+
 without-requires : tie.Need-without-requires
 without-requires c κs = search needs
 
--- src/lib.rt:87:14
 survivors-requires : tie.Need-survivors-requires
-survivors-requires c κs = ?
+survivors-requires c κs =
+    let s = c .before .before .before in
+    part (s .args .t .now) (s .args .plan .now) (s .args .groups) (s .args .q) (s .args .first) (c .without .result) (s .pre) (c .without .ensures)
 
--- src/lib.rt:88:52
 without-requires-2 : tie.Need-without-requires-2
 without-requires-2 c κs = search needs
 
--- src/lib.rt:88:14
 survivors-requires-2 : tie.Need-survivors-requires-2
-survivors-requires-2 c κs = ?
+survivors-requires-2 c κs =
+    let s = c .before .before .before .before .before in
+    part (s .args .t .now) (s .args .plan .now) (s .args .groups) (s .args .q) (s .args .second) (c .without2 .result) (s .pre) (c .without2 .ensures)
 
--- src/lib.rt:90:9
 returns : tie.Need-returns
-returns c = ?
+returns c =
+    let K = c .before in
+    let s = K .before .before .before .before .before .before in
+    let T = s .args .t .now in
+    let n = nodes T in
+    let first = K .before .before .survivors .ensures .0 ∙ ap (greatest n (satisfied T) nobody) (K .before .before .before .without .ensures) in
+    let second = K .survivors2 .ensures .0 ∙ ap (greatest n (satisfied T) nobody) (K .before .without2 .ensures) in
+    first-empty n (satisfied T) (s .args .q) (record { first = s .args .first; second = s .args .second }) (K .before .before .survivors .result .set) (K .survivors2 .result .set) first second (c .if1 .taken)
 
--- src/lib.rt:93:9
 returns-2 : tie.Need-returns-2
-returns-2 c = ?
+returns-2 c =
+    let K = c .before .before in
+    let s = K .before .before .before .before .before .before in
+    let T = s .args .t .now in
+    let n = nodes T in
+    let first = K .before .before .survivors .ensures .0 ∙ ap (greatest n (satisfied T) nobody) (K .before .before .before .without .ensures) in
+    let second = K .survivors2 .ensures .0 ∙ ap (greatest n (satisfied T) nobody) (K .before .without2 .ensures) in
+    second-empty n (satisfied T) (s .args .q) (record { first = s .args .first; second = s .args .second }) (K .before .before .survivors .result .set) (K .survivors2 .result .set) first second (c .before .if1 .left) (c .if2 .taken)
 
--- src/lib.rt:83:1
 returns-3 : tie.Need-returns-3
-returns-3 c = ?
+returns-3 c =
+    let K = c .before .before in
+    let s = K .before .before .before .before .before .before in
+    let T = s .args .t .now in
+    let n = nodes T in
+    let first = K .before .before .survivors .ensures .0 ∙ ap (greatest n (satisfied T) nobody) (K .before .before .before .without .ensures) in
+    let second = K .survivors2 .ensures .0 ∙ ap (greatest n (satisfied T) nobody) (K .before .without2 .ensures) in
+    shared n (satisfied T) (s .args .q) (record { first = s .args .first; second = s .args .second }) (K .before .before .survivors .result .set) (K .survivors2 .result .set) first second (c .before .if1 .left) (c .if2 .left)
 
 pub next-spec : {M : Type 1} → statement M
 next-spec =

@@ -1,3 +1,13 @@
+-- A verdict other than no ends the rounds here; a no leads on to fewer nodes, from which the rounds answer the same.
+use mathlib.Core.Path.{_≡_, sym, ap, _∙_, subst}
+use mathlib.Core.List.{List}
+use Prim.Native.Nat.{ℕ, _^_, _<_}
+use Rattle.sets.specs.Sets.{nobody}
+use Rattle.meanings.specs.Table.{nodes, satisfied}
+use Rattle.meanings.specs.Quorums.{greatest}
+use Rattle.theory.proofs.Greatest.{greatest-lt}
+use Rattle.intact.proofs.Taken.{not-no}
+use Rattle.intact.proofs.Rounds.{stops, goes-on}
 use borrow.Author.Needs.{needs}
 use Rattle.intact.proofs.round.Statement.{statement}
 use Rattle.intact.proofs.round.Tie as tie
@@ -8,33 +18,47 @@ use Rattle.intact.proofs.settled.Reads as settled-reads
 use Rattle.intact.proofs.verdict_of.Reads as verdict-of-reads
 use Rattle.rounds.proofs.survivors.Reads as survivors-reads
 
--- src/lib.rt:111:13
+-- q is a set of nodes
+quorum-lt : (t : List ℕ) (u q : ℕ) → q ≡ greatest (nodes t) (satisfied t) nobody u → q < 2 ^ nodes t
+quorum-lt t u q e = subst (λ (y : ℕ). y < 2 ^ nodes t) (sym e) (greatest-lt (nodes t) (satisfied t) nobody u)
+
 survivors-requires : tie.Need-survivors-requires
 survivors-requires c κs = search needs
 
--- src/lib.rt:112:9
 verdict-of-requires : tie.Need-verdict-of-requires
-verdict-of-requires c κs = ?
+verdict-of-requires c κs =
+    let s = c .before .before .before in
+    record { grouped = s .pre .grouped; all-is = s .pre .all-is; inside = quorum-lt (s .args .t .now) (s .args .u) (c .survivors .result .set) (c .survivors .ensures .0) }
 
--- src/lib.rt:114:9
 enum-known-found : tie.Need-enum-known-found
 enum-known-found c = search needs
 
--- src/lib.rt:119:28
 settled-requires : tie.Need-settled-requires
 settled-requires c κs = search needs
 
--- src/lib.rt:119:9
 returns : tie.Need-returns
-returns c = ?
+returns c =
+    let A = c .before .before in
+    let Q = A .before in
+    let s = Q .before .before .before in
+    c .settled .ensures
+    ∙ stops (s .args .t .now) (s .args .u) (s .args .allowance) (s .args .spent) (Q .survivors .result .set) (Q .survivors .ensures .0) (A .verdict-of .result) (A .verdict-of .ensures)
+    (not-no (A .verdict-of .result) (c .before .match .keys2))
 
--- src/lib.rt:122:12
 next-requires : tie.Need-next-requires
-next-requires c κs = ?
+next-requires c κs =
+    let Q = c .before .before .before .before in
+    let s = Q .before .before .before in
+    record { grouped = s .pre .grouped; inside = quorum-lt (s .args .t .now) (s .args .u) (Q .survivors .result .set) (Q .survivors .ensures .0) }
 
--- src/lib.rt:99:1
 returns-2 : tie.Need-returns-2
-returns-2 c = ?
+returns-2 c =
+    let A = c .before .before .before .before in
+    let Q = A .before in
+    let s = Q .before .before .before in
+    let g = c .before .before .found .given in
+    goes-on (s .args .t .now) (s .args .u) (s .args .allowance) (s .args .spent) (Q .survivors .result .set) (Q .survivors .ensures .0) (A .verdict-of .result) (A .verdict-of .ensures)
+    (g .0 .0) (g .0 .1 .0) (g .0 .1 .1 .0) (c .next .result) (g .1) (c .next .ensures)
 
 pub round-spec : {M : Type 1} → statement M
 round-spec =

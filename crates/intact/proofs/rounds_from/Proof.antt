@@ -1,3 +1,9 @@
+-- The rounds from here, after the visits so far, answer what the rounds from the start do. Each round leaves fewer nodes, so they end.
+use mathlib.Core.Path.{_≡_, refl, _∙_, subst}
+use Prim.Native.Nat.{ℕ, _^_, _<_}
+use Rattle.sets.specs.Sets.{size}
+use Rattle.meanings.specs.Table.{nodes}
+use Rattle.intact.specs.Rounds.{within, roundsOf, Sequel, Turned}
 use borrow.Author.Needs.{needs}
 use Rattle.intact.proofs.rounds_from.Statement.{statement}
 use Rattle.intact.proofs.rounds_from.Tie as tie
@@ -6,38 +12,54 @@ use Rattle.intact.proofs.rounds_from.Lts as lts
 use Rattle.intact.proofs.round.Reads as round-reads
 
 abbrev Inv-loop : tie.InvT-loop
-Inv-loop t plan groups all u allowance spent left₀ visits₀ left visits = ?
+Inv-loop t plan groups all u allowance spent left₀ visits₀ left visits =
+    (left < 2 ^ nodes t) × (within allowance visits (roundsOf t left) ≡ within allowance spent (roundsOf t u))
 
 abbrev μ-loop : tie.MeasureT-loop
-μ-loop t plan groups all u allowance spent left₀ visits₀ left visits = ?
+μ-loop t plan groups all u allowance spent left₀ visits₀ left visits = size (nodes t) left
 
--- src/lib.rt:142:5
 loop-holds : tie.Need-loop-holds Inv-loop μ-loop
-loop-holds c = ?
+loop-holds c = (c .before .before .pre .inside, refl)
 
--- src/lib.rt:143:13
 round-requires : tie.Need-round-requires Inv-loop μ-loop
-round-requires c κs = ?
+round-requires c κs =
+    let s = c .before .before .before in
+    record { grouped = s .pre .grouped; all-is = s .pre .all-is; inside = c .loop .inv .0 }
 
--- src/lib.rt:145:25
 enum-known-turn : tie.Need-enum-known-turn Inv-loop μ-loop
-enum-known-turn c = ?
+enum-known-turn c = search needs
 
--- src/lib.rt:145:36
 returns : tie.Need-returns Inv-loop μ-loop
-returns c = ?
+returns c =
+    let R = c .before .before .before in
+    let L = R .before in
+    let s = L .before .before .before in
+    let T = s .args .t .now in
+    let g = c .before .turn .given in
+    subst (Turned T (L .loop .left) (s .args .allowance) (L .loop .visits)) (g .1) (R .round .ensures) ∙ L .loop .inv .1
 
--- src/lib.rt:147:20
 enum-known-turn-2 : tie.Need-enum-known-turn-2 Inv-loop μ-loop
-enum-known-turn-2 c = ?
+enum-known-turn-2 c = search needs
 
--- src/lib.rt:142:5
 loop-less : tie.Need-loop-less Inv-loop μ-loop
-loop-less c = ?
+loop-less c =
+    let R = c .before .before .before in
+    let L = R .before in
+    let s = L .before .before .before in
+    let T = s .args .t .now in
+    let g = c .before .turn2 .given in
+    let w : Sequel T (L .loop .left) (s .args .allowance) (L .loop .visits) (g .0 .0) (g .0 .1 .0) = subst (Turned T (L .loop .left) (s .args .allowance) (L .loop .visits)) (g .1) (R .round .ensures) in
+    w .fewer
 
--- src/lib.rt:142:5
 loop-again : tie.Need-loop-again Inv-loop μ-loop
-loop-again c = ?
+loop-again c =
+    let R = c .before .before .before in
+    let L = R .before in
+    let s = L .before .before .before in
+    let T = s .args .t .now in
+    let g = c .before .turn2 .given in
+    let w : Sequel T (L .loop .left) (s .args .allowance) (L .loop .visits) (g .0 .0) (g .0 .1 .0) = subst (Turned T (L .loop .left) (s .args .allowance) (L .loop .visits)) (g .1) (R .round .ensures) in
+    (w .inside, w .same ∙ L .loop .inv .1)
 
 pub rounds-from-spec : {M : Type 1} → statement M
 rounds-from-spec =
