@@ -8,23 +8,25 @@ use native.Mathlib.Nat.{not-suc-le-zero}
 use native.Mathlib.Omega.{arith}
 use borrow.Author.Tests.{eq-eqb, ne-eqb}
 use lib.Pow.{pow-pos}
-use Rattle.sets.specs.Sets.{nobody, everyone, _∩_, _∖_, empty, size}
+use Rattle.sets.specs.Sets.{nobody, everyone, has, _∩_, _∖_, empty, size}
+use Rattle.sets.proofs.Bools.{clash}
+use Rattle.sets.proofs.Members.{∖-out, ∖-lt, none-in, everyone-lt, sub-antisym}
 use Rattle.sets.proofs.Size.{sub-size, size-le, size-at}
 use Rattle.meanings.specs.Table.{nodes, satisfied}
 use Rattle.meanings.specs.Quorums.{ground, greatest}
 use Rattle.meanings.specs.Trees.{Pair, Walk, hit, missed, stuck, verdictTree, walk}
-use Rattle.meanings.specs.Intact.{Ended, intactAre, endedLater, verdict, nextU, onRound, roundsFrom}
+use Rattle.meanings.specs.Intact.{Ended, intactAre, endedLater, verdict, nextU, onRound, roundsFrom, intactSearch}
 use Rattle.theory.proofs.Quorum.{Monotone}
 use Rattle.theory.proofs.Greatest.{greatest-lt, greatest-sub}
 use Rattle.theory.proofs.Verdict.{Sound, Decided, all-meet, two-apart, decided}
-use Rattle.theory.proofs.Intact.{ground-others, rounds-step, next-lt, next-fewer}
+use Rattle.theory.proofs.Intact.{ground-others, rounds-step, search-step, next-lt, next-fewer}
 use Rattle.tables.proofs.Sound.{sound-table}
 use Rattle.judge.proofs.Monotone.{satisfied-monotone}
 use Rattle.answers.specs.declared.Verdict.{Verdict}
 use Rattle.answers.specs.declared.Verdict.the-variants as Vx
 use Rattle.verdict.specs.Search.{Visiting, treeOf, within as verdictWithin}
-use Rattle.intact.specs.Rounds.{Asked, within, onYes, roundsOf, Sequel}
-use Rattle.intact.proofs.Allowance.{NotNo, after, round-ends, said-no}
+use Rattle.intact.specs.Rounds.{Asked, within, onYes, onNo, roundsOf, Sequel}
+use Rattle.intact.proofs.Allowance.{NotNo, NotYes, after, round-ends, plain-ends, said-yes, said-no}
 
 module _ (n : ℕ) (s : ℕ → ℕ → Bool) (mono : Monotone s) where
   -- a verdict that finds a pair with all but q counted out leaves fewer than q has
@@ -154,3 +156,35 @@ module _ (t : List ℕ) where
               ∙ ap (λ (z : Ended). within allowance spent (endedLater j z)) (larger-bound n s (satisfied-monotone t) n (nextU n s g x) few)
               ∙ ap (within allowance spent) (sym (rounds-step n s n u (hit x j) (w .1)));
         })
+
+-- ---- the plain verdict first: with all but everyone counted out, nobody is
+nobody-out : (n : ℕ) → everyone n ∖ everyone n ≡ nobody
+nobody-out n =
+    sub-antisym n (everyone n ∖ everyone n) nobody (∖-lt n (everyone n) (everyone n) (everyone-lt n)) (pow-pos n)
+    (λ i p. let w = ∖-out (everyone n) (everyone n) i p in clash (has (everyone n) i) (w .0) (w .1)) (λ i p. none-in nobody i refl p)
+
+module _ (t : List ℕ) (ill allowance all : ℕ) (all-is : all ≡ everyone (nodes t)) (v : Verdict) (says : v ≡ verdictWithin allowance 0 (verdict (nodes t) (satisfied t) (everyone (nodes t) ∖ all))) where
+  plainly : v ≡ verdictWithin allowance 0 (verdict (nodes t) (satisfied t) nobody)
+  plainly =
+      says
+      ∙ ap (λ (x : ℕ). verdictWithin allowance 0 (verdict (nodes t) (satisfied t) (everyone (nodes t) ∖ x))) all-is
+      ∙ ap (λ (x : ℕ). verdictWithin allowance 0 (verdict (nodes t) (satisfied t) x)) (nobody-out (nodes t))
+
+  -- a plain verdict other than yes ends the question
+  pub plain-stops : NotYes v → onNo v ≡ within allowance 0 (intactSearch (nodes t) (satisfied t) ill)
+  plain-stops z =
+      let n = nodes t in
+      let s = satisfied t in
+      plain-ends allowance 0 n s (verdict n s nobody) (roundsOf t (everyone n ∖ ill)) v plainly z
+      ∙ ap (within allowance 0) (sym (search-step n s ill (verdict n s nobody) refl))
+
+  -- after a yes, the rounds answer it
+  pub plain-goes-on : (k u : ℕ) → v ≡ Vx.Yes k → u ≡ all ∖ ill → within allowance k (roundsOf t u) ≡ within allowance 0 (intactSearch (nodes t) (satisfied t) ill)
+  plain-goes-on k u e f =
+      let n = nodes t in
+      let s = satisfied t in
+      let w = said-yes allowance 0 (verdict n s nobody) k (sym e ∙ plainly) in
+      let j = w .0 in
+      ap₂ (λ (x y : ℕ). within allowance x (roundsOf t y)) (w .2) (f ∙ ap (λ (x : ℕ). x ∖ ill) all-is)
+      ∙ after allowance 0 j (roundsOf t (everyone n ∖ ill))
+      ∙ ap (within allowance 0) (sym (search-step n s ill (missed j) (w .1)))

@@ -12,6 +12,8 @@ ghost use Rattle.groups.specs.Groups.{Grouped};
 ghost use Rattle.rounds.specs.Rounds.{Ground};
 ghost use Rattle.verdict.specs.Search.{within as verdictWithin};
 ghost use Rattle.intact.specs.Rounds.{Asked, Turned, within, handedOn, onYes, onNo};
+ghost use Rattle.intact.specs.Promise.{IntactPromise};
+use answers::Checked;
 use answers::Intact;
 use answers::Verdict;
 
@@ -60,8 +62,8 @@ fn divided(found: Verdict) -> Intact
     }
 }
 
-// Do all quorums of q intersect, with all but q counted out?
-fn verdict_of(
+// Do all quorums intersect, with all but q counted out? Where q is all nodes, this is the plain verdict.
+pub fn verdict_of(
     t: &[u64],
     plan: &[u64],
     groups: usize,
@@ -152,4 +154,50 @@ pub fn rounds_from(
             }
         }
     }
+}
+
+// The plain verdict, and where it is yes the rounds, from all nodes outside the ill set on, after its visits.
+fn verdict_then_rounds(
+    t: &[u64],
+    plan: &[u64],
+    groups: usize,
+    all: u64,
+    ill: u64,
+    allowance: u64,
+) -> Intact
+    requires { ⌜ Asked (now t) (now plan) groups all ill ⌝ }
+    ensures { λ o. ⌜ o ≡ within allowance 0 (intactSearch (nodesOf (now (t .entry))) (satisfied (now (t .entry))) ill) ⌝ }
+{
+    let plain = verdict_of(t, plan, groups, all, all, allowance, 0);
+    let Verdict::Yes { visits } = plain else {
+        return divided(plain);
+    };
+    let well = sets::without(all, ill);
+    rounds_from(t, plan, groups, all, well, allowance, visits)
+}
+
+// The intact nodes of a sound table, for an ill set of its nodes.
+fn intact_of(t: &[u64], nodes: u64, ill: u64, allowance: u64) -> Intact
+    requires { ⌜ (check (now t) ≡ sound) × (nodes ≡ nodesOf (now t)) × (withinSet ill (everyone (nodesOf (now t))) ≡ true) ⌝ }
+    ensures { λ o. ⌜ o ≡ within allowance 0 (intactSearch (nodesOf (now (t .entry))) (satisfied (now (t .entry))) ill) ⌝ }
+{
+    let mut plan = [0u64; 128];
+    let groups = groups::group(t, &mut plan);
+    let all = sets::all(nodes);
+    verdict_then_rounds(t, &plan, groups, all, ill, allowance)
+}
+
+// Which nodes are intact for an ill set: those that some DSet around the ill set leaves out. Answered only where all plain quorums
+// intersect; elsewhere two that do not are handed over.
+pub fn intact_nodes(table: &[u64], ill: u64, allowance: u64) -> Intact
+    ensures { λ r. ⌜ IntactPromise (now (table .entry)) ill allowance r ⌝ }
+{
+    let checked = faults::check_table(table);
+    let Checked::Sound { nodes, records: _ } = checked else {
+        return Intact::Bad(quorums::fault_of(checked));
+    };
+    if !quorums::inside(ill, nodes) {
+        return Intact::Outside;
+    }
+    intact_of(table, nodes, ill, allowance)
 }
