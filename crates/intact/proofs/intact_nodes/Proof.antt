@@ -1,3 +1,22 @@
+-- The table's faults first, then 8, each handed on whatever the answer would be; then the answer. What is told carries its meaning.
+use mathlib.Core.Path.{_≡_, ap, _∙_}
+use mathlib.Core.Bool.{true, false}
+use mathlib.Core.List.{List}
+use Prim.Native.Nat.{ℕ}
+use Rattle.sets.specs.Sets.{within as liesWithin, everyone}
+use Rattle.meanings.specs.Table.{nodes, satisfied}
+use Rattle.meanings.specs.Intact.{intactSearch}
+use Rattle.meanings.specs.Questions.{intactReply, checkReply, intactSays as replySays}
+use Rattle.answers.specs.Said.{checkedSays, intactSays}
+use Rattle.answers.specs.declared.Fault.{Fault}
+use Rattle.answers.specs.declared.Checked.{Checked}
+use Rattle.answers.specs.declared.Checked.the-variants as Cx
+use Rattle.answers.specs.declared.Intact.{Intact}
+use Rattle.answers.specs.declared.Intact.the-variants.{Outside, Bad}
+use Rattle.faults.proofs.Known.{fault-known}
+use Rattle.quorums.proofs.Opening.{Passed, past-check, found-inside, found-outside, inside, outside}
+use Rattle.intact.specs.Rounds.{within}
+use Rattle.intact.proofs.Meaning.{says-within, promised}
 use borrow.Author.Needs.{needs}
 use Rattle.intact.proofs.intact_nodes.Statement.{statement}
 use Rattle.intact.proofs.intact_nodes.Tie as tie
@@ -8,41 +27,88 @@ use Rattle.intact.proofs.intact_of.Reads as intact-of-reads
 use Rattle.quorums.proofs.fault_of.Reads as fault-of-reads
 use Rattle.quorums.proofs.inside.Reads as inside-reads
 
--- src/lib.rt:195:9
+-- what is told, in the order of the numbers
+told-fault : (t : List ℕ) (o : Checked) → checkedSays o ≡ checkReply t → (f : Fault) → o ≡ Cx.Bad f → (ill allowance : ℕ)
+    → intactSays (Bad f) ≡ intactReply t ill allowance
+unfolding intactReply
+told-fault t o says f e ill allowance = fault-known t o says f e _
+
+told-outside : (t : List ℕ) (n : ℕ) → Passed t n → (ill allowance : ℕ) → liesWithin ill (everyone (nodes t)) ≡ false
+    → intactSays Outside ≡ intactReply t ill allowance
+unfolding intactReply
+told-outside t n p ill allowance e =
+    outside t n p (liesWithin ill (everyone (nodes t))) e (replySays allowance (intactSearch (nodes t) (satisfied t) ill))
+
+told-answer : (t : List ℕ) (n : ℕ) → Passed t n → (ill allowance : ℕ) → liesWithin ill (everyone (nodes t)) ≡ true
+    → (r : Intact) → r ≡ within allowance 0 (intactSearch (nodes t) (satisfied t) ill) → intactSays r ≡ intactReply t ill allowance
+unfolding intactReply
+told-answer t n p ill allowance e r w =
+    ap intactSays w
+    ∙ says-within allowance (intactSearch (nodes t) (satisfied t) ill)
+    ∙ inside t n p (liesWithin ill (everyone (nodes t))) e (replySays allowance (intactSearch (nodes t) (satisfied t) ill))
+
 check-table-requires : tie.Need-check-table-requires
 check-table-requires c κs = search needs
 
--- src/lib.rt:196:26
 enum-known-checked : tie.Need-enum-known-checked
 enum-known-checked c = search needs
 
--- src/lib.rt:197:28
 enum-told : tie.Need-enum-told
 enum-told c = search needs
 
--- src/lib.rt:197:28
 fault-of-requires : tie.Need-fault-of-requires
 fault-of-requires c κs = search needs
 
--- src/lib.rt:197:9
 returns : tie.Need-returns
-returns c = ?
+returns c =
+    let P = c .before .before .before in
+    let s = P .before .before in
+    let t = s .args .table .now in
+    promised t (s .args .ill) (s .args .allowance) (Bad (c .fault-of .result))
+    (told-fault t (P .check-table .result) (P .check-table .ensures) (c .fault-of .result) (c .fault-of .ensures) (s .args .ill) (s .args .allowance))
 
--- src/lib.rt:199:9
+-- past the check, and the ill set lies within the nodes
+passed : (c : tie.After-known-told) → Passed (c .before .before .before .before .before .args .table .now) (c .before .checked .given .0 .0)
+passed c =
+    let P = c .before .before .before in
+    let g = c .before .checked .given in
+    past-check (P .before .before .args .table .now) (P .check-table .result) (P .check-table .ensures) (g .0 .0) (g .0 .1 .0) (g .1)
+
+ill-inside : (c : tie.Else1) →
+    let s = c .before .before .before .before .before .before .before in
+    liesWithin (s .args .ill) (everyone (nodes (s .args .table .now))) ≡ true
+ill-inside c =
+    let I = c .before in
+    let K = I .before in
+    let s = K .before .before .before .before .before in
+    found-inside (s .args .table .now) (K .before .checked .given .0 .0) (passed K) (s .args .ill) (I .inside .result) (I .inside .ensures) (c .if1 .left)
+
 inside-requires : tie.Need-inside-requires
-inside-requires c κs = ?
+inside-requires c κs = passed c .few
 
--- src/lib.rt:200:9
 returns-2 : tie.Need-returns-2
-returns-2 c = ?
+returns-2 c =
+    let I = c .before in
+    let K = I .before in
+    let s = K .before .before .before .before .before in
+    let t = s .args .table .now in
+    let n = K .before .checked .given .0 .0 in
+    promised t (s .args .ill) (s .args .allowance) Outside
+    (told-outside t n (passed K) (s .args .ill) (s .args .allowance) (found-outside t n (passed K) (s .args .ill) (I .inside .result) (I .inside .ensures) (c .if1 .taken)))
 
--- src/lib.rt:202:5
 intact-of-requires : tie.Need-intact-of-requires
-intact-of-requires c κs = ?
+intact-of-requires c κs =
+    let K = c .before .before in
+    (passed K .checked, passed K .nodes-are, ill-inside c)
 
--- src/lib.rt:192:1
 returns-3 : tie.Need-returns-3
-returns-3 c = ?
+returns-3 c =
+    let E = c .before in
+    let K = E .before .before in
+    let s = K .before .before .before .before .before in
+    let t = s .args .table .now in
+    promised t (s .args .ill) (s .args .allowance) (c .intact-of .result)
+    (told-answer t (K .before .checked .given .0 .0) (passed K) (s .args .ill) (s .args .allowance) (ill-inside E) (c .intact-of .result) (c .intact-of .ensures))
 
 pub intact-nodes-spec : {M : Type 1} → statement M
 intact-nodes-spec =

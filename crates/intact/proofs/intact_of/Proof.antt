@@ -1,3 +1,10 @@
+-- The plan groups the nodes, and the ill set is one of nodes, which is all that the search asks.
+use mathlib.Core.Path.{_≡_, sym, ap, _∙_, subst}
+use Prim.Native.Nat.{ℕ, _^_, _<_, _≤_}
+use Rattle.sets.specs.Sets.{everyone}
+use Rattle.meanings.specs.Table.{nodes}
+use Rattle.tables.proofs.Sound.{sound-table}
+use Rattle.quorums.proofs.Opening.{inside-lt}
 use borrow.Author.Needs.{needs}
 use Rattle.intact.proofs.intact_of.Statement.{statement}
 use Rattle.intact.proofs.intact_of.Tie as tie
@@ -7,27 +14,28 @@ use Rattle.groups.proofs.group.Reads as group-reads
 use Rattle.intact.proofs.verdict_then_rounds.Reads as verdict-then-rounds-reads
 use Rattle.sets.proofs.all.Reads as all-reads
 
--- src/lib.rt:185:35
 slice-aggregate-group : tie.Need-slice-aggregate-group
 slice-aggregate-group c = search needs
 
--- src/lib.rt:185:9
 group-requires : tie.Need-group-requires
 group-requires c κs = search needs
 
--- src/lib.rt:186:9
 all-requires : tie.Need-all-requires
-all-requires c κs = ?
+all-requires c κs =
+    let s = c .before .before .before .before in
+    subst (λ (x : ℕ). x ≤ 64) (sym (s .pre .1)) (sound-table (s .args .t .now) (s .pre .0) .nodes-le)
 
--- src/lib.rt:187:28
 slice-aggregate-verdict-then-rounds : tie.Need-slice-aggregate-verdict-then-rounds
 slice-aggregate-verdict-then-rounds c = search needs
 
--- src/lib.rt:187:5
 verdict-then-rounds-requires : tie.Need-verdict-then-rounds-requires
-verdict-then-rounds-requires c κs = ?
+verdict-then-rounds-requires c κs =
+    let s = c .before .before .before .before .before .before in
+    let n = nodes (s .args .t .now) in
+    let h : s .args .ill < 2 ^ n = inside-lt (s .args .ill) n (s .pre .2) in
+    let e : c .before .all .result ≡ everyone n = c .before .all .ensures ∙ ap everyone (s .pre .1) in
+    search needs
 
--- src/lib.rt:180:1
 returns : tie.Need-returns
 returns c = search needs
 

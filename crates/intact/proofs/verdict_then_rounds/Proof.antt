@@ -1,3 +1,10 @@
+-- With all but everyone counted out the verdict is the plain one; other than yes it ends the question, and after a yes the rounds answer it.
+use mathlib.Core.Path.{sym, _∙_, subst}
+use Prim.Native.Nat.{ℕ, _^_, _<_}
+use Rattle.sets.proofs.Members.{everyone-lt, ∖-lt}
+use Rattle.meanings.specs.Table.{nodes}
+use Rattle.intact.proofs.Taken.{not-yes}
+use Rattle.intact.proofs.Rounds.{plain-stops, plain-goes-on}
 use borrow.Author.Needs.{needs}
 use Rattle.intact.proofs.verdict_then_rounds.Statement.{statement}
 use Rattle.intact.proofs.verdict_then_rounds.Tie as tie
@@ -8,33 +15,46 @@ use Rattle.intact.proofs.rounds_from.Reads as rounds-from-reads
 use Rattle.intact.proofs.verdict_of.Reads as verdict-of-reads
 use Rattle.sets.proofs.without.Reads as without-reads
 
--- src/lib.rt:171:9
 verdict-of-requires : tie.Need-verdict-of-requires
-verdict-of-requires c κs = ?
+verdict-of-requires c κs =
+    let s = c .before .before in
+    let n = nodes (s .args .t .now) in
+    record { grouped = s .pre .grouped; all-is = s .pre .all-is; inside = subst (λ (x : ℕ). x < 2 ^ n) (sym (s .pre .all-is)) (everyone-lt n) }
 
--- src/lib.rt:172:24
 enum-known-plain : tie.Need-enum-known-plain
 enum-known-plain c = search needs
 
--- src/lib.rt:173:9
 divided-requires : tie.Need-divided-requires
 divided-requires c κs = search needs
 
--- src/lib.rt:173:9
 returns : tie.Need-returns
-returns c = ?
+returns c =
+    let A = c .before .before in
+    let s = A .before .before .before in
+    c .divided .ensures
+    ∙ plain-stops (s .args .t .now) (s .args .ill) (s .args .allowance) (s .args .all) (s .pre .all-is) (A .verdict-of .result) (A .verdict-of .ensures)
+    (not-yes (A .verdict-of .result) (c .before .match .keys2))
 
--- src/lib.rt:175:9
 without-requires : tie.Need-without-requires
 without-requires c κs = search needs
 
--- src/lib.rt:176:5
 rounds-from-requires : tie.Need-rounds-from-requires
-rounds-from-requires c κs = ?
+rounds-from-requires c κs =
+    let A = c .before .before .before .before in
+    let s = A .before .before .before in
+    let n = nodes (s .args .t .now) in
+    let h : s .args .all < 2 ^ n = subst (λ (x : ℕ). x < 2 ^ n) (sym (s .pre .all-is)) (everyone-lt n) in
+    record { grouped = s .pre .grouped; all-is = s .pre .all-is; inside = subst (λ (x : ℕ). x < 2 ^ n) (sym (c .without .ensures)) (∖-lt n (s .args .all) (s .args .ill) h) }
 
--- src/lib.rt:160:1
 returns-2 : tie.Need-returns-2
-returns-2 c = ?
+returns-2 c =
+    let W = c .before in
+    let A = W .before .before .before .before in
+    let s = A .before .before .before in
+    let g = W .before .before .plain .given in
+    c .rounds-from .ensures
+    ∙ plain-goes-on (s .args .t .now) (s .args .ill) (s .args .allowance) (s .args .all) (s .pre .all-is) (A .verdict-of .result) (A .verdict-of .ensures)
+    (g .0 .0) (W .without .result) (g .1) (W .without .ensures)
 
 pub verdict-then-rounds-spec : {M : Type 1} → statement M
 verdict-then-rounds-spec =
