@@ -13,6 +13,7 @@ use Rattle.answers.specs.declared.Verdict.the-variants as Vx
 use Rattle.answers.specs.declared.Intact.{Intact}
 use Rattle.answers.specs.declared.Intact.the-variants as Ix
 use Rattle.verdict.specs.Search.{within as verdictWithin}
+use Rattle.verdict.proofs.Allowance.{NotYes}
 use Rattle.intact.specs.Rounds.{inTime, within, onYes, onNo}
 
 -- the visits up to an end
@@ -21,7 +22,7 @@ visitsOf (intactAre q k) = k
 visitsOf (divided p k) = k
 visitsOf (stuckAfter k) = k
 
--- which verdicts say no, and which say yes
+-- a verdict other than no
 abbrev pub NotNo : Verdict → Type 0
 NotNo (Vx.Yes k) = Unit {0}
 NotNo (Vx.No a b k) = ⊥
@@ -29,14 +30,6 @@ NotNo (Vx.Spent k) = Unit {0}
 NotNo Vx.Unsplit = Unit {0}
 NotNo Vx.Outside = Unit {0}
 NotNo (Vx.Bad f) = Unit {0}
-
-abbrev pub NotYes : Verdict → Type 0
-NotYes (Vx.Yes k) = ⊥
-NotYes (Vx.No a b k) = Unit {0}
-NotYes (Vx.Spent k) = Unit {0}
-NotYes Vx.Unsplit = Unit {0}
-NotYes Vx.Outside = Unit {0}
-NotYes (Vx.Bad f) = Unit {0}
 
 later-counts : (j : ℕ) (e : Ended) → j ≤ visitsOf (endedLater j e)
 later-counts j (intactAre q k) = omega arith

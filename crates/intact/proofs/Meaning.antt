@@ -10,10 +10,11 @@ use native.Mathlib.Nat.{zero-add}
 use native.Mathlib.Omega.{arith}
 use borrow.Author.Tests.{le-leb, lt-leb}
 use lib.Dec.{leb}
-use Rattle.sets.specs.Sets.{nobody, everyone, within as liesWithin}
+use lib.Pow.{pow-mono}
+use Rattle.sets.specs.Sets.{nobody, everyone, _∖_, size, within as liesWithin}
 use Rattle.sets.proofs.Bools.{either, clash}
 use Rattle.sets.proofs.Members.{everyone-lt, within-lt}
-use Rattle.sets.proofs.Size.{le-or-lt}
+use Rattle.sets.proofs.Size.{le-or-lt, size-le}
 use Rattle.meanings.specs.Table.{nodes, satisfied}
 use Rattle.meanings.specs.Faults.{Check, sound, fault, check}
 use Rattle.meanings.specs.Quorums.{intersecting, disjointQuorums, intactNodes}
@@ -22,13 +23,13 @@ use Rattle.meanings.specs.Intact.{Ended, intactAre, divided, stuckAfter, intact
 use Rattle.meanings.specs.Replies.{Reply, Named, rank}
 use Rattle.meanings.specs.Questions.{onCheck, inNodes, intactReply, intactSays as replySays}
 use Rattle.theory.proofs.Verdict.{Sound, sound-disjoint}
-use Rattle.theory.proofs.Intact.{intact-answer, intact-divided}
+use Rattle.theory.proofs.Intact.{start, rounds-answer, intact-answer, intact-divided}
 use Rattle.judge.proofs.Monotone.{satisfied-monotone}
 use Rattle.answers.specs.Said.{faultSays, intactSays}
 use Rattle.answers.specs.declared.Intact.{Intact}
 use Rattle.answers.specs.declared.Intact.the-variants.{Are, Divided, Spent, Unsplit, Outside, Bad}
 use Rattle.answers.proofs.Exact.{intact-exact}
-use Rattle.intact.specs.Rounds.{within}
+use Rattle.intact.specs.Rounds.{within, roundsOf}
 use Rattle.intact.specs.Promise.{IntactPromise}
 use Rattle.intact.proofs.Allowance.{visitsOf}
 
@@ -204,6 +205,29 @@ module _ (t : List ℕ) (ill allowance : ℕ) where
   -- what is told carries its meaning
   pub promised : (r : Intact) → intactSays r ≡ intactReply t ill allowance → IntactPromise t ill allowance r
   promised r e = record { told = e; means = answer-means r e; divided-means = pair-means r e }
+
+-- ---- the rounds by themselves: where all plain quorums intersect, from all nodes outside the ill set they end with the intact nodes,
+-- after fewer than 2 ^ (n + 2) visits
+module _ (t : List ℕ) (ill : ℕ) (h : liesWithin ill (everyone (nodes t)) ≡ true) (i : intersecting (nodes t) (satisfied t) nobody ≡ true) where
+  pub rounds-end : (k : ℕ) × (roundsOf t (everyone (nodes t) ∖ ill) ≡ intactAre (intactNodes (nodes t) (satisfied t) ill) k) × (suc k ≤ 2 ^ suc (suc (nodes t)))
+  rounds-end =
+      let n = nodes t in
+      let s = satisfied t in
+      let m = satisfied-monotone t in
+      let u = everyone n ∖ ill in
+      let hb = within-lt n ill (everyone n) (everyone-lt n) h in
+      let l = size-le n u in
+      let w = rounds-answer n s m i ill hb (suc n) u (start n s m i ill hb) (omega arith) in
+      let p : 2 ^ suc (suc (size n u)) ≤ 2 ^ suc (suc n) = let x : suc (suc (size n u)) ≤ suc (suc n) = omega arith in pow-mono x in
+      let b = w .2 in
+      (w .0, w .1, omega arith)
+
+  pub rounds-say : (allowance spent : ℕ) → spent + rounds-end .0 ≤ allowance
+      → within allowance spent (roundsOf t (everyone (nodes t) ∖ ill)) ≡ Are (intactNodes (nodes t) (satisfied t) ill) (spent + rounds-end .0)
+  rounds-say allowance spent l = ap (within allowance spent) (rounds-end .1) ∙ in-turn
+    where
+      in-turn : within allowance spent (intactAre (intactNodes (nodes t) (satisfied t) ill) (rounds-end .0)) ≡ Are (intactNodes (nodes t) (satisfied t) ill) (spent + rounds-end .0)
+      in-turn = rw (le-leb (spent + rounds-end .0) allowance l)
 
 -- ---- the theorems
 module _ (t : List ℕ) (ill allowance : ℕ) (r : Intact) (p : IntactPromise t ill allowance r) where

@@ -25,8 +25,9 @@ use Rattle.judge.proofs.Monotone.{satisfied-monotone}
 use Rattle.answers.specs.declared.Verdict.{Verdict}
 use Rattle.answers.specs.declared.Verdict.the-variants as Vx
 use Rattle.verdict.specs.Search.{Visiting, treeOf, within as verdictWithin}
+use Rattle.verdict.proofs.Allowance.{NotYes}
 use Rattle.intact.specs.Rounds.{Asked, within, onYes, onNo, roundsOf, Sequel}
-use Rattle.intact.proofs.Allowance.{NotNo, NotYes, after, round-ends, plain-ends, said-yes, said-no}
+use Rattle.intact.proofs.Allowance.{NotNo, after, round-ends, plain-ends, said-yes, said-no}
 
 module _ (n : ℕ) (s : ℕ → ℕ → Bool) (mono : Monotone s) where
   -- a verdict that finds a pair with all but q counted out leaves fewer than q has

@@ -10,7 +10,8 @@ use Rattle.answers.specs.declared.Verdict.{Verdict}
 use Rattle.answers.specs.declared.Verdict.the-variants as Vx
 use Rattle.answers.specs.declared.Intact.the-variants as Ix
 use Rattle.intact.specs.Rounds.{handedOn, onYes, onNo}
-use Rattle.intact.proofs.Allowance.{NotYes, NotNo}
+use Rattle.verdict.proofs.Allowance.{NotYes}
+use Rattle.intact.proofs.Allowance.{NotNo}
 
 pub not-no : (o : Verdict) → OneOf (0 ∷ 2 ∷ 3 ∷ 4 ∷ 5 ∷ []) (tagOf Rattle.answers.proofs.Verdict.the-type o) → NotNo o
 not-no (Vx.No a b k) h =
@@ -22,17 +23,6 @@ not-no (Vx.Spent k) h = tt
 not-no Vx.Unsplit h = tt
 not-no Vx.Outside h = tt
 not-no (Vx.Bad f) h = tt
-
-pub not-yes : (o : Verdict) → OneOf (1 ∷ 2 ∷ 3 ∷ 4 ∷ 5 ∷ []) (tagOf Rattle.answers.proofs.Verdict.the-type o) → NotYes o
-not-yes (Vx.Yes k) h =
-    ⊎-elim (λ (e : _≡_ {A = ℕ} 0 1). omega arith)
-    (⊎-elim (λ (e : _≡_ {A = ℕ} 0 2). omega arith)
-    (⊎-elim (λ (e : _≡_ {A = ℕ} 0 3). omega arith) (⊎-elim (λ (e : _≡_ {A = ℕ} 0 4). omega arith) (λ (e : _≡_ {A = ℕ} 0 5). omega arith)))) h
-not-yes (Vx.No a b k) h = tt
-not-yes (Vx.Spent k) h = tt
-not-yes Vx.Unsplit h = tt
-not-yes Vx.Outside h = tt
-not-yes (Vx.Bad f) h = tt
 
 pub not-spent : (o : Verdict) → OneOf (0 ∷ 1 ∷ 3 ∷ 4 ∷ 5 ∷ []) (tagOf Rattle.answers.proofs.Verdict.the-type o) → Ix.Unsplit ≡ handedOn o
 not-spent (Vx.Spent k) h =

@@ -30,31 +30,24 @@ within allowance spent (intactAre q k) = inTime allowance (spent + k) (Ix.Are q 
 within allowance spent (divided p k) = inTime allowance (spent + k) (Ix.Divided (p .first) (p .second) (spent + k))
 within allowance spent (stuckAfter k) = inTime allowance (spent + k) Ix.Unsplit
 
--- what a verdict that is neither yes nor no hands on
-abbrev pub handedOn : Verdict → Intact
-handedOn (Vx.Yes k) = Ix.Unsplit
-handedOn (Vx.No p q k) = Ix.Unsplit
-handedOn (Vx.Spent k) = Ix.Spent k
-handedOn Vx.Unsplit = Ix.Unsplit
-handedOn Vx.Outside = Ix.Unsplit
-handedOn (Vx.Bad f) = Ix.Unsplit
+-- what is made of a verdict: of a yes, of a no, and of the rest, whose number is handed on
+abbrev pub onVerdict : (ℕ → Intact) → (ℕ → ℕ → ℕ → Intact) → Verdict → Intact
+onVerdict atYes atNo (Vx.Yes k) = atYes k
+onVerdict atYes atNo (Vx.No p q k) = atNo p q k
+onVerdict atYes atNo (Vx.Spent k) = Ix.Spent k
+onVerdict atYes atNo Vx.Unsplit = Ix.Unsplit
+onVerdict atYes atNo Vx.Outside = Ix.Unsplit
+onVerdict atYes atNo (Vx.Bad f) = Ix.Unsplit
 
--- how a verdict other than no ends the rounds, and how one other than yes ends the question
+-- at one that is neither; at one other than no, which ends the rounds; and at one other than yes, which ends the question
+abbrev pub handedOn : Verdict → Intact
+handedOn v = onVerdict (λ k. Ix.Unsplit) (λ p q k. Ix.Unsplit) v
+
 abbrev pub onYes : ℕ → Verdict → Intact
-onYes q (Vx.Yes k) = Ix.Are q k
-onYes q (Vx.No a b k) = Ix.Unsplit
-onYes q (Vx.Spent k) = Ix.Spent k
-onYes q Vx.Unsplit = Ix.Unsplit
-onYes q Vx.Outside = Ix.Unsplit
-onYes q (Vx.Bad f) = Ix.Unsplit
+onYes set v = onVerdict (λ k. Ix.Are set k) (λ p q k. Ix.Unsplit) v
 
 abbrev pub onNo : Verdict → Intact
-onNo (Vx.Yes k) = Ix.Unsplit
-onNo (Vx.No a b k) = Ix.Divided a b k
-onNo (Vx.Spent k) = Ix.Spent k
-onNo Vx.Unsplit = Ix.Unsplit
-onNo Vx.Outside = Ix.Unsplit
-onNo (Vx.Bad f) = Ix.Unsplit
+onNo v = onVerdict (λ k. Ix.Unsplit) (λ p q k. Ix.Divided p q k) v
 
 -- the rounds of a table from u on
 abbrev pub roundsOf : List ℕ → ℕ → Ended

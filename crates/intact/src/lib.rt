@@ -97,20 +97,20 @@ fn next(t: &[u64], plan: &[u64], groups: usize, q: u64, first: u64, second: u64)
     w1 & w2
 }
 
-// One round from u on, after so many visits: q is the greatest plain quorum in u, and the verdict with all but q counted out decides.
+// One round from the nodes left, after so many visits: q is the greatest plain quorum in them, and the verdict with all but q counted out decides.
 fn round(
     t: &[u64],
     plan: &[u64],
     groups: usize,
     all: u64,
-    u: u64,
+    left: u64,
     allowance: u64,
     spent: u64,
 ) -> Turn
-    requires { ⌜ Asked (now t) (now plan) groups all u ⌝ }
-    ensures { λ o. ⌜ Turned (now (t .entry)) u allowance spent o ⌝ }
+    requires { ⌜ Asked (now t) (now plan) groups all left ⌝ }
+    ensures { λ o. ⌜ Turned (now (t .entry)) left allowance spent o ⌝ }
 {
-    let q = rounds::survivors(t, plan, groups, 0, u).set;
+    let q = rounds::survivors(t, plan, groups, 0, left).set;
     let found = verdict_of(t, plan, groups, all, q, allowance, spent);
     let Verdict::No {
         first,
@@ -120,10 +120,8 @@ fn round(
     else {
         return Turn::Ended(settled(q, found));
     };
-    Turn::Next {
-        u: next(t, plan, groups, q, first, second),
-        visits,
-    }
+    let u = next(t, plan, groups, q, first, second);
+    Turn::Next { u, visits }
 }
 
 // The rounds from u on, after so many visits. A round that is not the last leaves fewer nodes, so the rounds end.

@@ -6,6 +6,7 @@ use Rattle.sets.specs.Sets.{nobody, _∖_}
 use Rattle.sets.proofs.Members.{∖-lt}
 use Rattle.meanings.specs.Table.{nodes, satisfied}
 use Rattle.meanings.specs.Quorums.{greatest}
+use Rattle.meanings.specs.Trees.{Pair}
 use Rattle.rounds.specs.Rounds.{Ground}
 use Rattle.intact.proofs.Rounds.{first-empty, second-empty, shared}
 use borrow.Author.Needs.{needs}
@@ -37,35 +38,43 @@ survivors-requires-2 c κs =
     let s = c .before .before .before .before .before in
     part (s .args .t .now) (s .args .plan .now) (s .args .groups) (s .args .q) (s .args .second) (c .without2 .result) (s .pre) (c .without2 .ensures)
 
+-- W1 and W2, with what the definition takes of them
+module _ (c : tie.After-survivors2) where
+  abbrev s : tie.Start
+  s = c .before .before .before .before .before .before
+
+  abbrev T : List ℕ
+  T = s .args .t .now
+
+  abbrev w1 : ℕ
+  w1 = c .before .before .survivors .result .set
+
+  abbrev w2 : ℕ
+  w2 = c .survivors2 .result .set
+
+  first-is : w1 ≡ greatest (nodes T) (satisfied T) nobody (s .args .q ∖ s .args .first)
+  first-is = c .before .before .survivors .ensures .0 ∙ ap (greatest (nodes T) (satisfied T) nobody) (c .before .before .before .without .ensures)
+
+  second-is : w2 ≡ greatest (nodes T) (satisfied T) nobody (s .args .q ∖ s .args .second)
+  second-is = c .survivors2 .ensures .0 ∙ ap (greatest (nodes T) (satisfied T) nobody) (c .before .without2 .ensures)
+
+  abbrev pair : Pair
+  pair = record { first = s .args .first; second = s .args .second }
+
 returns : tie.Need-returns
 returns c =
     let K = c .before in
-    let s = K .before .before .before .before .before .before in
-    let T = s .args .t .now in
-    let n = nodes T in
-    let first = K .before .before .survivors .ensures .0 ∙ ap (greatest n (satisfied T) nobody) (K .before .before .before .without .ensures) in
-    let second = K .survivors2 .ensures .0 ∙ ap (greatest n (satisfied T) nobody) (K .before .without2 .ensures) in
-    first-empty n (satisfied T) (s .args .q) (record { first = s .args .first; second = s .args .second }) (K .before .before .survivors .result .set) (K .survivors2 .result .set) first second (c .if1 .taken)
+    first-empty (nodes (T K)) (satisfied (T K)) (s K .args .q) (pair K) (w1 K) (w2 K) (first-is K) (second-is K) (c .if1 .taken)
 
 returns-2 : tie.Need-returns-2
 returns-2 c =
     let K = c .before .before in
-    let s = K .before .before .before .before .before .before in
-    let T = s .args .t .now in
-    let n = nodes T in
-    let first = K .before .before .survivors .ensures .0 ∙ ap (greatest n (satisfied T) nobody) (K .before .before .before .without .ensures) in
-    let second = K .survivors2 .ensures .0 ∙ ap (greatest n (satisfied T) nobody) (K .before .without2 .ensures) in
-    second-empty n (satisfied T) (s .args .q) (record { first = s .args .first; second = s .args .second }) (K .before .before .survivors .result .set) (K .survivors2 .result .set) first second (c .before .if1 .left) (c .if2 .taken)
+    second-empty (nodes (T K)) (satisfied (T K)) (s K .args .q) (pair K) (w1 K) (w2 K) (first-is K) (second-is K) (c .before .if1 .left) (c .if2 .taken)
 
 returns-3 : tie.Need-returns-3
 returns-3 c =
     let K = c .before .before in
-    let s = K .before .before .before .before .before .before in
-    let T = s .args .t .now in
-    let n = nodes T in
-    let first = K .before .before .survivors .ensures .0 ∙ ap (greatest n (satisfied T) nobody) (K .before .before .before .without .ensures) in
-    let second = K .survivors2 .ensures .0 ∙ ap (greatest n (satisfied T) nobody) (K .before .without2 .ensures) in
-    shared n (satisfied T) (s .args .q) (record { first = s .args .first; second = s .args .second }) (K .before .before .survivors .result .set) (K .survivors2 .result .set) first second (c .before .if1 .left) (c .if2 .left)
+    shared (nodes (T K)) (satisfied (T K)) (s K .args .q) (pair K) (w1 K) (w2 K) (first-is K) (second-is K) (c .before .if1 .left) (c .if2 .left)
 
 pub next-spec : {M : Type 1} → statement M
 next-spec =

@@ -28,7 +28,7 @@ survivors-requires c κs = search needs
 verdict-of-requires : tie.Need-verdict-of-requires
 verdict-of-requires c κs =
     let s = c .before .before .before in
-    record { grouped = s .pre .grouped; all-is = s .pre .all-is; inside = quorum-lt (s .args .t .now) (s .args .u) (c .survivors .result .set) (c .survivors .ensures .0) }
+    record { grouped = s .pre .grouped; all-is = s .pre .all-is; inside = quorum-lt (s .args .t .now) (s .args .left) (c .survivors .result .set) (c .survivors .ensures .0) }
 
 enum-known-found : tie.Need-enum-known-found
 enum-known-found c = search needs
@@ -42,14 +42,14 @@ returns c =
     let Q = A .before in
     let s = Q .before .before .before in
     c .settled .ensures
-    ∙ stops (s .args .t .now) (s .args .u) (s .args .allowance) (s .args .spent) (Q .survivors .result .set) (Q .survivors .ensures .0) (A .verdict-of .result) (A .verdict-of .ensures)
+    ∙ stops (s .args .t .now) (s .args .left) (s .args .allowance) (s .args .spent) (Q .survivors .result .set) (Q .survivors .ensures .0) (A .verdict-of .result) (A .verdict-of .ensures)
     (not-no (A .verdict-of .result) (c .before .match .keys2))
 
 next-requires : tie.Need-next-requires
 next-requires c κs =
     let Q = c .before .before .before .before in
     let s = Q .before .before .before in
-    record { grouped = s .pre .grouped; inside = quorum-lt (s .args .t .now) (s .args .u) (Q .survivors .result .set) (Q .survivors .ensures .0) }
+    record { grouped = s .pre .grouped; inside = quorum-lt (s .args .t .now) (s .args .left) (Q .survivors .result .set) (Q .survivors .ensures .0) }
 
 returns-2 : tie.Need-returns-2
 returns-2 c =
@@ -57,7 +57,7 @@ returns-2 c =
     let Q = A .before in
     let s = Q .before .before .before in
     let g = c .before .before .found .given in
-    goes-on (s .args .t .now) (s .args .u) (s .args .allowance) (s .args .spent) (Q .survivors .result .set) (Q .survivors .ensures .0) (A .verdict-of .result) (A .verdict-of .ensures)
+    goes-on (s .args .t .now) (s .args .left) (s .args .allowance) (s .args .spent) (Q .survivors .result .set) (Q .survivors .ensures .0) (A .verdict-of .result) (A .verdict-of .ensures)
     (g .0 .0) (g .0 .1 .0) (g .0 .1 .1 .0) (c .next .result) (g .1) (c .next .ensures)
 
 pub round-spec : {M : Type 1} → statement M

@@ -1,7 +1,8 @@
 -- A yes is asked for by name; anything else is handed on.
 use mathlib.Core.Path.{sym, ap, _∙_}
 use Rattle.intact.specs.Rounds.{onYes}
-use Rattle.intact.proofs.Taken.{not-yes, no-yes}
+use Rattle.verdict.proofs.Split.{not-yes}
+use Rattle.intact.proofs.Taken.{no-yes}
 use borrow.Author.Needs.{needs}
 use Rattle.intact.proofs.settled.Statement.{statement}
 use Rattle.intact.proofs.settled.Tie as tie

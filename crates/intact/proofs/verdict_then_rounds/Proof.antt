@@ -3,7 +3,7 @@ use mathlib.Core.Path.{sym, _∙_, subst}
 use Prim.Native.Nat.{ℕ, _^_, _<_}
 use Rattle.sets.proofs.Members.{everyone-lt, ∖-lt}
 use Rattle.meanings.specs.Table.{nodes}
-use Rattle.intact.proofs.Taken.{not-yes}
+use Rattle.verdict.proofs.Split.{not-yes}
 use Rattle.intact.proofs.Rounds.{plain-stops, plain-goes-on}
 use borrow.Author.Needs.{needs}
 use Rattle.intact.proofs.verdict_then_rounds.Statement.{statement}
