@@ -1,8 +1,9 @@
 // The doors for technicians: every public operation under a C name. A function takes what the operation takes and no more; an answer is
 // one struct with the number, the place and the fields of document 01's table, 0 where a field is not named.
-ghost use Rattle.answers.specs.Said.{faultSays, checkedSays, readSays, wroteSays, judgedSays, greatestSays, verdictSays, listedSays, intactSays};
 ghost use mathlib.Core.List.{[], _∷_};
 ghost use Rattle.meanings.specs.Replies.{reply, _is_, Place, Nodes, Records, Answer, Set, Rounds, First, Second, Count, Visits};
+ghost use Rattle.answers.specs.Said.{faultSays, checkedSays, readSays, wroteSays, judgedSays, greatestSays, verdictSays, listedSays, intactSays};
+ghost use Rattle.meanings.specs.Questions.{checkReply, quorumReply, greatestReply, blocksReply, verdictReply, intactReply};
 ghost use Rattle.doors.specs.Doors.{Shows};
 use answers::Checked;
 use answers::Fault;
@@ -106,28 +107,47 @@ fn counted(number: u64, count: u64) -> Reply
     }
 }
 
-// Two sets and the visits: a verdict's no, and number 11.
-fn pair(number: u64, first: u64, second: u64, visits: u64) -> Reply
-    ensures { λ r. ⌜ Shows r (reply number (First is first ∷ Second is second ∷ Visits is visits ∷ [])) ⌝ }
+// A table that passes: its nodes and records.
+fn sound(nodes: u64, records: u64) -> Reply
+    ensures { λ r. ⌜ Shows r (reply 0 (Nodes is nodes ∷ Records is records ∷ [])) ⌝ }
 {
     Reply {
-        number,
+        number: 0,
         place: 0,
-        nodes: 0,
-        records: 0,
+        nodes,
+        records,
         answer: 0,
         set: 0,
         rounds: 0,
-        first,
-        second,
+        first: 0,
+        second: 0,
         count: 0,
-        visits,
+        visits: 0,
     }
 }
 
-// A set and the visits: the intact nodes.
-fn set_after(set: u64, visits: u64) -> Reply
-    ensures { λ r. ⌜ Shows r (reply 0 (Set is set ∷ Visits is visits ∷ [])) ⌝ }
+// Yes, 1, or no, 0.
+fn answered(answer: u64) -> Reply
+    ensures { λ r. ⌜ Shows r (reply 0 (Answer is answer ∷ [])) ⌝ }
+{
+    Reply {
+        number: 0,
+        place: 0,
+        nodes: 0,
+        records: 0,
+        answer,
+        set: 0,
+        rounds: 0,
+        first: 0,
+        second: 0,
+        count: 0,
+        visits: 0,
+    }
+}
+
+// A set and its rounds.
+fn set_in(set: u64, rounds: u64) -> Reply
+    ensures { λ r. ⌜ Shows r (reply 0 (Set is set ∷ Rounds is rounds ∷ [])) ⌝ }
 {
     Reply {
         number: 0,
@@ -136,11 +156,11 @@ fn set_after(set: u64, visits: u64) -> Reply
         records: 0,
         answer: 0,
         set,
-        rounds: 0,
+        rounds,
         first: 0,
         second: 0,
         count: 0,
-        visits,
+        visits: 0,
     }
 }
 
@@ -163,6 +183,82 @@ fn yes_after(visits: u64) -> Reply
     }
 }
 
+// A verdict's no, with the pair.
+fn no_after(first: u64, second: u64, visits: u64) -> Reply
+    ensures { λ r. ⌜ Shows r (reply 0 (Answer is 0 ∷ First is first ∷ Second is second ∷ Visits is visits ∷ [])) ⌝ }
+{
+    Reply {
+        number: 0,
+        place: 0,
+        nodes: 0,
+        records: 0,
+        answer: 0,
+        set: 0,
+        rounds: 0,
+        first,
+        second,
+        count: 0,
+        visits,
+    }
+}
+
+// A list: how many sets.
+fn sets_after(count: u64, visits: u64) -> Reply
+    ensures { λ r. ⌜ Shows r (reply 0 (Count is count ∷ Visits is visits ∷ [])) ⌝ }
+{
+    Reply {
+        number: 0,
+        place: 0,
+        nodes: 0,
+        records: 0,
+        answer: 0,
+        set: 0,
+        rounds: 0,
+        first: 0,
+        second: 0,
+        count,
+        visits,
+    }
+}
+
+// The intact nodes.
+fn set_after(set: u64, visits: u64) -> Reply
+    ensures { λ r. ⌜ Shows r (reply 0 (Set is set ∷ Visits is visits ∷ [])) ⌝ }
+{
+    Reply {
+        number: 0,
+        place: 0,
+        nodes: 0,
+        records: 0,
+        answer: 0,
+        set,
+        rounds: 0,
+        first: 0,
+        second: 0,
+        count: 0,
+        visits,
+    }
+}
+
+// Number 11: the pair.
+fn divided(first: u64, second: u64, visits: u64) -> Reply
+    ensures { λ r. ⌜ Shows r (reply 11 (First is first ∷ Second is second ∷ Visits is visits ∷ [])) ⌝ }
+{
+    Reply {
+        number: 11,
+        place: 0,
+        nodes: 0,
+        records: 0,
+        answer: 0,
+        set: 0,
+        rounds: 0,
+        first,
+        second,
+        count: 0,
+        visits,
+    }
+}
+
 // Numbers 1 to 7.
 fn of_fault(f: Fault) -> Reply
     ensures { λ r. ⌜ Shows r (faultSays f) ⌝ }
@@ -178,6 +274,63 @@ fn of_fault(f: Fault) -> Reply
     }
 }
 
+// What checking a table answers.
+fn of_checked(c: Checked) -> Reply
+    ensures { λ r. ⌜ Shows r (checkedSays c) ⌝ }
+{
+    match c {
+        Checked::Sound { nodes, records } => sound(nodes, records),
+        Checked::Bad(f) => of_fault(f),
+    }
+}
+
+// What reading a sheet answers.
+fn of_read(read: Read) -> Reply
+    ensures { λ r. ⌜ Shows r (readSays read) ⌝ }
+{
+    match read {
+        Read::Words { count } => counted(0, count),
+        Read::Short { count } => counted(10, count),
+        Read::Malformed { line } => refusal(12, line),
+        Read::Bad(f) => of_fault(f),
+    }
+}
+
+// What writing a sheet answers.
+fn of_wrote(w: Wrote) -> Reply
+    ensures { λ r. ⌜ Shows r (wroteSays w) ⌝ }
+{
+    match w {
+        Wrote::Bytes { count } => counted(0, count),
+        Wrote::Short { count } => counted(10, count),
+        Wrote::Bad(f) => of_fault(f),
+    }
+}
+
+// What a question of yes or no answers.
+fn of_judged(j: Judged) -> Reply
+    ensures { λ r. ⌜ Shows r (judgedSays j) ⌝ }
+{
+    match j {
+        Judged::Yes => answered(1),
+        Judged::No => answered(0),
+        Judged::Outside => bare(8),
+        Judged::Bad(f) => of_fault(f),
+    }
+}
+
+// What the greatest quorum answers.
+fn of_greatest(g: Greatest) -> Reply
+    ensures { λ r. ⌜ Shows r (greatestSays g) ⌝ }
+{
+    match g {
+        Greatest::Is { set, rounds } => set_in(set, rounds),
+        Greatest::Outside => bare(8),
+        Greatest::Bad(f) => of_fault(f),
+    }
+}
+
+// What the verdict answers.
 fn of_verdict(v: Verdict) -> Reply
     ensures { λ r. ⌜ Shows r (verdictSays v) ⌝ }
 {
@@ -187,10 +340,89 @@ fn of_verdict(v: Verdict) -> Reply
             first,
             second,
             visits,
-        } => pair(0, first, second, visits),
+        } => no_after(first, second, visits),
         Verdict::Spent { visits } => spent(visits),
         Verdict::Unsplit => bare(13),
         Verdict::Outside => bare(8),
         Verdict::Bad(f) => of_fault(f),
     }
+}
+
+// What a list answers.
+fn of_listed(l: Listed) -> Reply
+    ensures { λ r. ⌜ Shows r (listedSays l) ⌝ }
+{
+    match l {
+        Listed::Sets { count, visits } => sets_after(count, visits),
+        Listed::Short { count } => counted(10, count),
+        Listed::Spent { visits } => spent(visits),
+        Listed::Unsplit => bare(13),
+        Listed::Bad(f) => of_fault(f),
+    }
+}
+
+// What the intact question answers.
+fn of_intact(i: Intact) -> Reply
+    ensures { λ r. ⌜ Shows r (intactSays i) ⌝ }
+{
+    match i {
+        Intact::Are { set, visits } => set_after(set, visits),
+        Intact::Divided {
+            first,
+            second,
+            visits,
+        } => divided(first, second, visits),
+        Intact::Spent { visits } => spent(visits),
+        Intact::Unsplit => bare(13),
+        Intact::Outside => bare(8),
+        Intact::Bad(f) => of_fault(f),
+    }
+}
+
+// Checks a packed table.
+#[no_mangle]
+pub extern "C" fn breezedrum_check(table: &[u64]) -> Reply
+    ensures { λ r. ⌜ Shows r (checkReply (now (table .entry))) ⌝ }
+{
+    of_checked(faults::check_table(table))
+}
+
+// Is `set` a quorum, with `out` counted out?
+#[no_mangle]
+pub extern "C" fn breezedrum_quorum(table: &[u64], out: u64, set: u64) -> Reply
+    ensures { λ r. ⌜ Shows r (quorumReply (now (table .entry)) out set) ⌝ }
+{
+    of_judged(quorums::is_quorum(table, out, set))
+}
+
+// The greatest quorum within `set`, with `out` counted out.
+#[no_mangle]
+pub extern "C" fn breezedrum_greatest(table: &[u64], out: u64, set: u64) -> Reply
+    ensures { λ r. ⌜ Shows r (greatestReply (now (table .entry)) out set) ⌝ }
+{
+    of_greatest(quorums::greatest_quorum(table, out, set))
+}
+
+// Does `set` block `node`?
+#[no_mangle]
+pub extern "C" fn breezedrum_blocks(table: &[u64], set: u64, node: u64) -> Reply
+    ensures { λ r. ⌜ Shows r (blocksReply (now (table .entry)) set node) ⌝ }
+{
+    of_judged(quorums::blocks_node(table, set, node))
+}
+
+// Do all quorums intersect, with `out` counted out?
+#[no_mangle]
+pub extern "C" fn breezedrum_verdict(table: &[u64], out: u64, allowance: u64) -> Reply
+    ensures { λ r. ⌜ Shows r (verdictReply (now (table .entry)) out allowance) ⌝ }
+{
+    of_verdict(verdict::intersect(table, out, allowance))
+}
+
+// The intact nodes for the ill set `ill`.
+#[no_mangle]
+pub extern "C" fn breezedrum_intact(table: &[u64], ill: u64, allowance: u64) -> Reply
+    ensures { λ r. ⌜ Shows r (intactReply (now (table .entry)) ill allowance) ⌝ }
+{
+    of_intact(intact::intact_nodes(table, ill, allowance))
 }

@@ -1,5 +1,8 @@
--- Each field is the one that the reply names, or 0.
-use Rattle.meanings.specs.Replies.{valueIn}
+-- By cases: each case shows what its kind of reply shows.
+use mathlib.Core.Path.{sym, subst}
+use Rattle.answers.specs.declared.Fault.{Fault}
+use Rattle.answers.specs.Said.{faultSays}
+use Rattle.doors.specs.Doors.{Shows}
 use borrow.Author.Needs.{needs}
 use Rattle.doors.proofs.of_fault.Statement.{statement}
 use Rattle.doors.proofs.of_fault.Tie as tie
@@ -50,26 +53,25 @@ refusal-requires-7 : tie.Need-refusal-requires-7
 refusal-requires-7 c κs = search needs
 
 returns : tie.Need-returns
-unfolding valueIn
-returns c = search needs
+returns c = subst (λ (x : Fault). Shows (c .refusal .result) (faultSays x)) (sym (c .before .before .f .given .1)) (c .refusal .ensures)
 
 returns-2 : tie.Need-returns-2
-returns-2 c = ?
+returns-2 c = subst (λ (x : Fault). Shows (c .refusal2 .result) (faultSays x)) (sym (c .before .before .f2 .given .1)) (c .refusal2 .ensures)
 
 returns-3 : tie.Need-returns-3
-returns-3 c = ?
+returns-3 c = subst (λ (x : Fault). Shows (c .refusal3 .result) (faultSays x)) (sym (c .before .before .f3 .given .1)) (c .refusal3 .ensures)
 
 returns-4 : tie.Need-returns-4
-returns-4 c = ?
+returns-4 c = subst (λ (x : Fault). Shows (c .refusal4 .result) (faultSays x)) (sym (c .before .before .f4 .given .1)) (c .refusal4 .ensures)
 
 returns-5 : tie.Need-returns-5
-returns-5 c = ?
+returns-5 c = subst (λ (x : Fault). Shows (c .refusal5 .result) (faultSays x)) (sym (c .before .before .f5 .given .1)) (c .refusal5 .ensures)
 
 returns-6 : tie.Need-returns-6
-returns-6 c = ?
+returns-6 c = subst (λ (x : Fault). Shows (c .refusal6 .result) (faultSays x)) (sym (c .before .before .f6 .given .1)) (c .refusal6 .ensures)
 
 returns-7 : tie.Need-returns-7
-returns-7 c = ?
+returns-7 c = subst (λ (x : Fault). Shows (c .refusal7 .result) (faultSays x)) (sym (c .before .before .f7 .given .1)) (c .refusal7 .ensures)
 
 pub of-fault-spec : {M : Type 1} → statement M
 of-fault-spec =

@@ -1,13 +1,16 @@
--- Each field is the one that the reply names, or 0.
-use Rattle.meanings.specs.Replies.{valueIn}
+-- By cases: each case shows what its kind of reply shows.
+use mathlib.Core.Path.{sym, subst}
+use Rattle.answers.specs.declared.Verdict.{Verdict}
+use Rattle.answers.specs.Said.{verdictSays}
+use Rattle.doors.specs.Doors.{Shows}
 use borrow.Author.Needs.{needs}
 use Rattle.doors.proofs.of_verdict.Statement.{statement}
 use Rattle.doors.proofs.of_verdict.Tie as tie
 use Rattle.doors.proofs.of_verdict.Reads as reads
 use Rattle.doors.proofs.of_verdict.Lts as lts
 use Rattle.doors.proofs.bare.Reads as bare-reads
+use Rattle.doors.proofs.no_after.Reads as no-after-reads
 use Rattle.doors.proofs.of_fault.Reads as of-fault-reads
-use Rattle.doors.proofs.pair.Reads as pair-reads
 use Rattle.doors.proofs.spent.Reads as spent-reads
 use Rattle.doors.proofs.yes_after.Reads as yes-after-reads
 
@@ -20,8 +23,8 @@ yes-after-requires c κs = search needs
 enum-known-v-2 : tie.Need-enum-known-v-2
 enum-known-v-2 c = search needs
 
-pair-requires : tie.Need-pair-requires
-pair-requires c κs = search needs
+no-after-requires : tie.Need-no-after-requires
+no-after-requires c κs = search needs
 
 enum-known-v-3 : tie.Need-enum-known-v-3
 enum-known-v-3 c = search needs
@@ -48,23 +51,22 @@ of-fault-requires : tie.Need-of-fault-requires
 of-fault-requires c κs = search needs
 
 returns : tie.Need-returns
-unfolding valueIn
-returns c = search needs
+returns c = subst (λ (x : Verdict). Shows (c .yes-after .result) (verdictSays x)) (sym (c .before .before .v .given .1)) (c .yes-after .ensures)
 
 returns-2 : tie.Need-returns-2
-returns-2 c = ?
+returns-2 c = subst (λ (x : Verdict). Shows (c .no-after .result) (verdictSays x)) (sym (c .before .before .v2 .given .1)) (c .no-after .ensures)
 
 returns-3 : tie.Need-returns-3
-returns-3 c = ?
+returns-3 c = subst (λ (x : Verdict). Shows (c .spent .result) (verdictSays x)) (sym (c .before .before .v3 .given .1)) (c .spent .ensures)
 
 returns-4 : tie.Need-returns-4
-returns-4 c = ?
+returns-4 c = subst (λ (x : Verdict). Shows (c .bare .result) (verdictSays x)) (sym (c .before .enum-told .given .1)) (c .bare .ensures)
 
 returns-5 : tie.Need-returns-5
-returns-5 c = ?
+returns-5 c = subst (λ (x : Verdict). Shows (c .bare2 .result) (verdictSays x)) (sym (c .before .enum-told2 .given .1)) (c .bare2 .ensures)
 
 returns-6 : tie.Need-returns-6
-returns-6 c = ?
+returns-6 c = subst (λ (x : Verdict). Shows (c .of-fault .result) (verdictSays x)) (sym (c .before .before .v4 .given .1)) (c .of-fault .ensures)
 
 pub of-verdict-spec : {M : Type 1} → statement M
 of-verdict-spec =
@@ -73,7 +75,7 @@ of-verdict-spec =
     enum-known-v
     yes-after-requires
     enum-known-v-2
-    pair-requires
+    no-after-requires
     enum-known-v-3
     spent-requires
     enum-told

@@ -1,0 +1,22 @@
+-- The struct shows what the operation's answer says.
+use mathlib.Core.Path.{subst}
+use Rattle.doors.specs.Doors.{Shows}
+use borrow.Author.Needs.{needs}
+use Rattle.doors.proofs.breezedrum_blocks.Statement.{statement}
+use Rattle.doors.proofs.breezedrum_blocks.Tie as tie
+use Rattle.doors.proofs.breezedrum_blocks.Reads as reads
+use Rattle.doors.proofs.breezedrum_blocks.Lts as lts
+use Rattle.doors.proofs.of_judged.Reads as of-judged-reads
+use Rattle.quorums.proofs.blocks_node.Reads as blocks-node-reads
+
+blocks-node-requires : tie.Need-blocks-node-requires
+blocks-node-requires c κs = search needs
+
+of-judged-requires : tie.Need-of-judged-requires
+of-judged-requires c κs = search needs
+
+returns : tie.Need-returns
+returns c = subst (Shows (c .of-judged .result)) (c .before .blocks-node .ensures) (c .of-judged .ensures)
+
+pub breezedrum-blocks-spec : {M : Type 1} → statement M
+breezedrum-blocks-spec = tie.close (tie.spec blocks-node-requires of-judged-requires returns)

@@ -1,0 +1,22 @@
+-- The struct shows what the operation's answer says.
+use mathlib.Core.Path.{subst}
+use Rattle.doors.specs.Doors.{Shows}
+use borrow.Author.Needs.{needs}
+use Rattle.doors.proofs.breezedrum_check.Statement.{statement}
+use Rattle.doors.proofs.breezedrum_check.Tie as tie
+use Rattle.doors.proofs.breezedrum_check.Reads as reads
+use Rattle.doors.proofs.breezedrum_check.Lts as lts
+use Rattle.doors.proofs.of_checked.Reads as of-checked-reads
+use Rattle.faults.proofs.check_table.Reads as check-table-reads
+
+check-table-requires : tie.Need-check-table-requires
+check-table-requires c κs = search needs
+
+of-checked-requires : tie.Need-of-checked-requires
+of-checked-requires c κs = search needs
+
+returns : tie.Need-returns
+returns c = subst (Shows (c .of-checked .result)) (c .before .check-table .ensures) (c .of-checked .ensures)
+
+pub breezedrum-check-spec : {M : Type 1} → statement M
+breezedrum-check-spec = tie.close (tie.spec check-table-requires of-checked-requires returns)

@@ -1,0 +1,22 @@
+-- The struct shows what the operation's answer says.
+use mathlib.Core.Path.{subst}
+use Rattle.doors.specs.Doors.{Shows}
+use borrow.Author.Needs.{needs}
+use Rattle.doors.proofs.breezedrum_intact.Statement.{statement}
+use Rattle.doors.proofs.breezedrum_intact.Tie as tie
+use Rattle.doors.proofs.breezedrum_intact.Reads as reads
+use Rattle.doors.proofs.breezedrum_intact.Lts as lts
+use Rattle.doors.proofs.of_intact.Reads as of-intact-reads
+use Rattle.intact.proofs.intact_nodes.Reads as intact-nodes-reads
+
+intact-nodes-requires : tie.Need-intact-nodes-requires
+intact-nodes-requires c κs = search needs
+
+of-intact-requires : tie.Need-of-intact-requires
+of-intact-requires c κs = search needs
+
+returns : tie.Need-returns
+returns c = subst (Shows (c .of-intact .result)) (c .before .intact-nodes .ensures .told) (c .of-intact .ensures)
+
+pub breezedrum-intact-spec : {M : Type 1} → statement M
+breezedrum-intact-spec = tie.close (tie.spec intact-nodes-requires of-intact-requires returns)

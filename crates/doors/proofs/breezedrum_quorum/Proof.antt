@@ -1,0 +1,22 @@
+-- The struct shows what the operation's answer says.
+use mathlib.Core.Path.{subst}
+use Rattle.doors.specs.Doors.{Shows}
+use borrow.Author.Needs.{needs}
+use Rattle.doors.proofs.breezedrum_quorum.Statement.{statement}
+use Rattle.doors.proofs.breezedrum_quorum.Tie as tie
+use Rattle.doors.proofs.breezedrum_quorum.Reads as reads
+use Rattle.doors.proofs.breezedrum_quorum.Lts as lts
+use Rattle.doors.proofs.of_judged.Reads as of-judged-reads
+use Rattle.quorums.proofs.is_quorum.Reads as is-quorum-reads
+
+is-quorum-requires : tie.Need-is-quorum-requires
+is-quorum-requires c κs = search needs
+
+of-judged-requires : tie.Need-of-judged-requires
+of-judged-requires c κs = search needs
+
+returns : tie.Need-returns
+returns c = subst (Shows (c .of-judged .result)) (c .before .is-quorum .ensures) (c .of-judged .ensures)
+
+pub breezedrum-quorum-spec : {M : Type 1} → statement M
+breezedrum-quorum-spec = tie.close (tie.spec is-quorum-requires of-judged-requires returns)

@@ -1,0 +1,14 @@
+-- Each field is the one that the reply names, or 0.
+use Rattle.meanings.specs.Replies.{valueIn}
+use borrow.Author.Needs.{needs}
+use Rattle.doors.proofs.divided.Statement.{statement}
+use Rattle.doors.proofs.divided.Tie as tie
+use Rattle.doors.proofs.divided.Reads as reads
+use Rattle.doors.proofs.divided.Lts as lts
+
+returns : tie.Need-returns
+unfolding valueIn
+returns c = search needs
+
+pub divided-spec : {M : Type 1} → statement M
+divided-spec = tie.close (tie.spec returns)

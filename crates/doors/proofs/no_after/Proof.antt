@@ -1,0 +1,14 @@
+-- Each field is the one that the reply names, or 0.
+use Rattle.meanings.specs.Replies.{valueIn}
+use borrow.Author.Needs.{needs}
+use Rattle.doors.proofs.no_after.Statement.{statement}
+use Rattle.doors.proofs.no_after.Tie as tie
+use Rattle.doors.proofs.no_after.Reads as reads
+use Rattle.doors.proofs.no_after.Lts as lts
+
+returns : tie.Need-returns
+unfolding valueIn
+returns c = search needs
+
+pub no-after-spec : {M : Type 1} → statement M
+no-after-spec = tie.close (tie.spec returns)
