@@ -1,13 +1,13 @@
 -- What an answer of number 0 means. A table's satisfaction is monotone, so the union of all quorums in u is itself a quorum, or
 -- empty: the largest quorum there. A round that is not the last drops a node and leaves one, so k nodes to start with take 1 to k.
 use mathlib.Core.Path.{_≡_, refl, sym, ap, _∙_, subst}
-use mathlib.Core.Bool.{Bool, true, false}
+use mathlib.Core.Bool.{Bool, true, false, not}
 use mathlib.Core.Logic.{_⊎_, inl, inr, ⊎-elim}
 use mathlib.Core.List.{List, [], _∷_}
 use Prim.Native.Nat.{ℕ, _^_, _<_, _≤_}
 use native.Mathlib.Omega.{arith}
-use borrow.Author.Tests.{eqb-true, eqb-false}
-use lib.Dec.{eqb}
+use borrow.Author.Tests.{eqb-true, eqb-false, ltb-true}
+use lib.Dec.{eqb, ltb}
 use lib.ListN.{length}
 use lib.Pow.{pow-pos}
 use Rattle.sets.specs.Sets.{nobody, everyone, _∖_, within, size}
@@ -15,18 +15,23 @@ use Rattle.sets.proofs.Bools.{either}
 use Rattle.sets.proofs.Members.{within-sub, sub-within}
 use Rattle.meanings.specs.Table.{nodes, satisfied}
 use Rattle.meanings.specs.Faults.{Check, sound, fault, check}
-use Rattle.meanings.specs.Quorums.{quorum, greatest}
+use Rattle.meanings.specs.Quorums.{quorum, greatest, blocks}
 use Rattle.meanings.specs.Rounds.{rounds}
-use Rattle.meanings.specs.Replies.{Reply, reply, _is_, Set, Rounds, value, valueIn}
-use Rattle.meanings.specs.Questions.{onCheck, inNodes, greatestReply}
+use Rattle.meanings.specs.Replies.{Reply, reply, _is_, Answer, Set, Rounds, rank, value, valueIn}
+use Rattle.meanings.specs.Questions.{onCheck, inNodes, yesOrNo, quorumReply, greatestReply, blocksReply}
 use Rattle.answers.specs.declared.Greatest.{Greatest}
 use Rattle.answers.specs.declared.Greatest.the-variants as Gx
-use Rattle.answers.specs.Said.{greatestSays}
+use Rattle.answers.specs.declared.Judged.{Judged}
+use Rattle.answers.specs.Said.{judgedSays, greatestSays}
 use Rattle.theory.proofs.Quorum.{quorum-is, is-quorum}
 use Rattle.theory.proofs.Greatest.{greatest-lt, greatest-sub, greatest-has, greatest-quorum, greatest-unique}
 use Rattle.theory.proofs.Rounds.{rounds-none, rounds-some}
 use Rattle.judge.proofs.Monotone.{satisfied-monotone}
 use Rattle.quorums.proofs.Opening.{inside-lt}
+
+not-not : (b : Bool) → not (not b) ≡ b
+not-not true = refl
+not-not false = refl
 
 -- g is the largest quorum in u with d counted out: it lies in u, every quorum in u lies in it, and it is a quorum or nobody
 pub record Largest (t : List ℕ) (d u g : ℕ) : Type 0 where
@@ -110,3 +115,37 @@ greatest-means t d u o says g k e =
       largest = subst (Largest t d u) (sym (w .3)) (greatest-largest t d u);
       counted = subst (Counted t d u) (sym (w .4)) (rounds-counted t d u (w .2));
     }
+
+-- ---- a yes or a no is given only for a sound table and arguments among its nodes, and it is what the definition says
+abbrev firstField : Reply → ℕ
+firstField r = elim (r .names) [ [] ↦ 10 | x ∷ l ↦ rank (x .field) ]
+
+judged-back : (c : Check) (a b yes x : Bool) → yesOrNo yes ≡ onCheck c (inNodes a (inNodes b (yesOrNo x))) → (c ≡ sound) × (a ≡ true) × (b ≡ true) × (x ≡ yes)
+unfolding valueIn
+judged-back sound true true true true e = (refl, refl, refl, refl)
+judged-back sound true true false false e = (refl, refl, refl, refl)
+judged-back sound true true true false e = let z : _≡_ {A = ℕ} 1 0 = ap (λ (y : Reply). value y Answer) e in absurd (omega arith)
+judged-back sound true true false true e = let z : _≡_ {A = ℕ} 0 1 = ap (λ (y : Reply). value y Answer) e in absurd (omega arith)
+judged-back sound true false true x e = let z : _≡_ {A = ℕ} 0 8 = ap (λ (y : Reply). y .number) e in absurd (omega arith)
+judged-back sound true false false x e = let z : _≡_ {A = ℕ} 0 8 = ap (λ (y : Reply). y .number) e in absurd (omega arith)
+judged-back sound false b true x e = let z : _≡_ {A = ℕ} 0 8 = ap (λ (y : Reply). y .number) e in absurd (omega arith)
+judged-back sound false b false x e = let z : _≡_ {A = ℕ} 0 8 = ap (λ (y : Reply). y .number) e in absurd (omega arith)
+judged-back (fault k p) a b true x e = let z : _≡_ {A = ℕ} 3 0 = ap firstField e in absurd (omega arith)
+judged-back (fault k p) a b false x e = let z : _≡_ {A = ℕ} 3 0 = ap firstField e in absurd (omega arith)
+
+module _ (t : List ℕ) (o : Judged) (yes : Bool) (answer : judgedSays o ≡ yesOrNo yes) where
+  pub quorum-means : (d u : ℕ) → judgedSays o ≡ quorumReply t d u → (check t ≡ sound) × (quorum (nodes t) (satisfied t) d u ≡ yes)
+  unfolding quorumReply
+  quorum-means d u says =
+      let n = nodes t in
+      let w = judged-back (check t) (within d (everyone n)) (within u (everyone n)) yes (quorum n (satisfied t) d u) (sym answer ∙ says) in
+      (w .0, w .3)
+
+  -- the set of node v is not satisfied by the nodes outside b
+  pub blocks-means : (b v : ℕ) → judgedSays o ≡ blocksReply t b v → (check t ≡ sound) × (v < nodes t) × (satisfied t (everyone (nodes t) ∖ b) v ≡ not yes)
+  unfolding blocksReply blocks
+  blocks-means b v says =
+      let n = nodes t in
+      let x = satisfied t (everyone n ∖ b) v in
+      let w = judged-back (check t) (within b (everyone n)) (ltb v n) yes (not x) (sym answer ∙ says) in
+      (w .0, ltb-true v n (w .2), sym (not-not x) ∙ ap not (w .3))

@@ -1,5 +1,5 @@
 -- Node v's quorum set is the record that opens it, judged on all nodes but those of the set.
-use mathlib.Core.Path.{_≡_, sym, ap, ap₂, _∙_}
+use mathlib.Core.Path.{_≡_, ap, ap₂, _∙_}
 use mathlib.Core.Bool.{Bool, not}
 use mathlib.Core.List.{List}
 use Prim.Native.Nat.{ℕ}
@@ -11,12 +11,6 @@ use Rattle.tables.proofs.Sound.{sound-table}
 use borrow.Author.Needs.{needs}
 use Rattle.quorums.proofs.blocked.Statement.{statement}
 use Rattle.quorums.proofs.blocked.Tie as tie
-use Rattle.quorums.proofs.blocked.Reads as reads
-use Rattle.quorums.proofs.blocked.Lts as lts
-use Rattle.judge.proofs.satisfies.Reads as satisfies-reads
-use Rattle.quorums.proofs.head.Reads as head-reads
-use Rattle.sets.proofs.all.Reads as all-reads
-use Rattle.sets.proofs.without.Reads as without-reads
 
 -- what is judged is what blocking asks
 outside-judged : (t : List ℕ) (n set v r u : ℕ) (b : Bool) → n ≡ nodes t → r ≡ headOf t v → u ≡ everyone n ∖ set → b ≡ satisfies 3 t u r

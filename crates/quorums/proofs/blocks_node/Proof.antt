@@ -13,13 +13,7 @@ use Rattle.quorums.proofs.Opening.{Passed, past-check, found-inside, fo
 use borrow.Author.Needs.{needs}
 use Rattle.quorums.proofs.blocks_node.Statement.{statement}
 use Rattle.quorums.proofs.blocks_node.Tie as tie
-use Rattle.quorums.proofs.blocks_node.Reads as reads
 use Rattle.quorums.proofs.blocks_node.Lts as lts
-use Rattle.faults.proofs.check_table.Reads as check-table-reads
-use Rattle.quorums.proofs.fault_of.Reads as fault-of-reads
-use Rattle.quorums.proofs.inside.Reads as inside-reads
-use Rattle.quorums.proofs.blocked.Reads as blocked-reads
-use Rattle.quorums.proofs.yes_or_no.Reads as yes-or-no-reads
 
 check-table-requires : tie.Need-check-table-requires
 check-table-requires c κs = search needs

@@ -5,10 +5,6 @@ use Rattle.quorums.proofs.Opening.{inside-lt}
 use borrow.Author.Needs.{needs}
 use Rattle.quorums.proofs.greatest_of.Statement.{statement}
 use Rattle.quorums.proofs.greatest_of.Tie as tie
-use Rattle.quorums.proofs.greatest_of.Reads as reads
-use Rattle.quorums.proofs.greatest_of.Lts as lts
-use Rattle.groups.proofs.group.Reads as group-reads
-use Rattle.rounds.proofs.survivors.Reads as survivors-reads
 
 slice-aggregate-group : tie.Need-slice-aggregate-group
 slice-aggregate-group c = search needs

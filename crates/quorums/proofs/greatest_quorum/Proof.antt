@@ -14,12 +14,7 @@ use Rattle.quorums.proofs.Opening.{Passed, past-check, found-inside, fo
 use borrow.Author.Needs.{needs}
 use Rattle.quorums.proofs.greatest_quorum.Statement.{statement}
 use Rattle.quorums.proofs.greatest_quorum.Tie as tie
-use Rattle.quorums.proofs.greatest_quorum.Reads as reads
 use Rattle.quorums.proofs.greatest_quorum.Lts as lts
-use Rattle.faults.proofs.check_table.Reads as check-table-reads
-use Rattle.quorums.proofs.fault_of.Reads as fault-of-reads
-use Rattle.quorums.proofs.inside.Reads as inside-reads
-use Rattle.quorums.proofs.greatest_of.Reads as greatest-of-reads
 
 check-table-requires : tie.Need-check-table-requires
 check-table-requires c κs = search needs

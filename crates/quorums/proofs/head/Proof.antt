@@ -10,12 +10,8 @@ use Rattle.meanings.specs.Table.{records, nodes, headOf, level as levelOf}
 use Rattle.tables.specs.Heads.{headsBefore}
 use Rattle.tables.proofs.Heads.{before-first, before-all, head-step, inner-step, head-of}
 use Rattle.tables.proofs.Sound.{record-in}
-use borrow.Author.Needs.{needs}
 use Rattle.quorums.proofs.head.Statement.{statement}
 use Rattle.quorums.proofs.head.Tie as tie
-use Rattle.quorums.proofs.head.Reads as reads
-use Rattle.quorums.proofs.head.Lts as lts
-use Rattle.tables.proofs.level.Reads as level-reads
 
 -- where no more than v nodes are open before a record, there is one
 here : (t : List ℕ) (r v : ℕ) → r ≤ records t → headsBefore t r ≤ v → v < nodes t → r < records t

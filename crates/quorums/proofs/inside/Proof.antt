@@ -1,6 +1,5 @@
 -- A set lies within the first n nodes where a shift by n leaves nothing of it; and any word lies within the first 64.
-use mathlib.Core.Path.{_≡_, sym, ap}
-use Prim.Native.Nat.{ℕ}
+use mathlib.Core.Path.{sym}
 use Rattle.sets.specs.Sets.{within, everyone}
 use Rattle.sets.proofs.Bools.{not-fails}
 use Rattle.faults.proofs.Laws.{within-all}
