@@ -48,28 +48,31 @@ past-check t o says n k e =
       few = subst (λ (m : ℕ). m ≤ 64) (sym (w .1)) (sound-table t (w .0) .nodes-le);
     }
 
--- ---- then the arguments: a set, or a second argument after it
-module _ (t : List ℕ) (n : ℕ) (p : Passed t n) where
-  -- what is found of a set: b says whether it lies within the n nodes
-  pub found-inside : (m : ℕ) (b : Bool) → b ≡ within m (everyone n) → not b ≡ false → within m (everyone (nodes t)) ≡ true
-  found-inside m b e h = ap (λ (k : ℕ). within m (everyone k)) (sym (p .nodes-are)) ∙ sym e ∙ not-fails b h
+-- ---- then a set of nodes; r says whether it lies within the n nodes
+module _ (t : List ℕ) (n : ℕ) (p : Passed t n) (m : ℕ) (r : Bool) (found : r ≡ within m (everyone n)) where
+  as-found : within m (everyone (nodes t)) ≡ r
+  as-found = ap (λ (k : ℕ). within m (everyone k)) (sym (p .nodes-are)) ∙ sym found
 
-  pub found-outside : (m : ℕ) (b : Bool) → b ≡ within m (everyone n) → not b ≡ true → within m (everyone (nodes t)) ≡ false
-  found-outside m b e h = ap (λ (k : ℕ). within m (everyone k)) (sym (p .nodes-are)) ∙ sym e ∙ not-holds b h
+  pub set-inside : not r ≡ false → within m (everyone (nodes t)) ≡ true
+  set-inside e = as-found ∙ not-fails r e
 
-  pub outside : (a : Bool) → a ≡ false → (x : Reply) → reply 8 [] ≡ onCheck (check t) (inNodes a x)
-  outside a e x = sym (ap₂ (λ (c : Check) (b : Bool). onCheck c (inNodes b x)) (p .checked) e)
+  past : (b : Bool) → r ≡ b → (x : Reply) → inNodes b x ≡ onCheck (check t) (inNodes (within m (everyone (nodes t))) x)
+  past b e x = sym (ap₂ (λ (c : Check) (d : Bool). onCheck c (inNodes d x)) (p .checked) (as-found ∙ e))
 
-  pub inside : (a : Bool) → a ≡ true → (x : Reply) → x ≡ onCheck (check t) (inNodes a x)
-  inside a e x = sym (ap₂ (λ (c : Check) (b : Bool). onCheck c (inNodes b x)) (p .checked) e)
+  pub set-outside : not r ≡ true → (x : Reply) → reply 8 [] ≡ onCheck (check t) (inNodes (within m (everyone (nodes t))) x)
+  set-outside e = past false (not-holds r e)
 
-  pub then-outside : (a b : Bool) → a ≡ true → b ≡ false → (x : Reply) → reply 8 [] ≡ onCheck (check t) (inNodes a (inNodes b x))
-  then-outside a b e f x = outside b f x ∙ ap (λ (d : Bool). onCheck (check t) (inNodes d (inNodes b x))) (sym e)
+  pub set-answered : not r ≡ false → (x : Reply) → x ≡ onCheck (check t) (inNodes (within m (everyone (nodes t))) x)
+  set-answered e = past true (not-fails r e)
 
-  pub then-inside : (a b : Bool) → a ≡ true → b ≡ true → (x : Reply) → x ≡ onCheck (check t) (inNodes a (inNodes b x))
-  then-inside a b e f x = inside b f x ∙ ap (λ (d : Bool). onCheck (check t) (inNodes d (inNodes b x))) (sym e)
+  -- and a further argument after it
+  pub then-outside : not r ≡ false → (b : Bool) → b ≡ false → (x : Reply) → reply 8 [] ≡ onCheck (check t) (inNodes (within m (everyone (nodes t))) (inNodes b x))
+  then-outside e b f x = ap (λ (d : Bool). inNodes d x) (sym f) ∙ set-answered e (inNodes b x)
 
--- ---- two sets may be tried at once: each lies within the nodes exactly when both together do
+  pub then-answered : not r ≡ false → (b : Bool) → b ≡ true → (x : Reply) → x ≡ onCheck (check t) (inNodes (within m (everyone (nodes t))) (inNodes b x))
+  then-answered e b f x = ap (λ (d : Bool). inNodes d x) (sym f) ∙ set-answered e (inNodes b x)
+
+-- ---- or two sets, tried at once: each lies within the nodes exactly when both together do
 within-both : (a b e : ℕ) → a < 2 ^ 64 → b < 2 ^ 64 → within (a ∪ b) e ≡ (within a e && within b e)
 within-both a b e h k = bool-ext (within (a ∪ b) e) (within a e && within b e) apart together
   where
@@ -87,15 +90,23 @@ in-turn : (a b : Bool) (x : Reply) → inNodes (a && b) x ≡ inNodes a (inNodes
 in-turn true b x = refl
 in-turn false b x = refl
 
-module _ (t : List ℕ) (a b : ℕ) (h : a < 2 ^ 64) (k : b < 2 ^ 64) where
-  pub both-sets : (x : Reply)
-      → onCheck (check t) (inNodes (within (a ∪ b) (everyone (nodes t))) x)
-      ≡ onCheck (check t) (inNodes (within a (everyone (nodes t))) (inNodes (within b (everyone (nodes t))) x))
+module _ (t : List ℕ) (n : ℕ) (p : Passed t n) (a b : ℕ) (h : a < 2 ^ 64) (k : b < 2 ^ 64) (r : Bool) (found : r ≡ within (a ∪ b) (everyone n)) where
+  abbrev inTurn : Reply → Reply
+  inTurn x = onCheck (check t) (inNodes (within a (everyone (nodes t))) (inNodes (within b (everyone (nodes t))) x))
+
+  both-sets : (x : Reply) → onCheck (check t) (inNodes (within (a ∪ b) (everyone (nodes t))) x) ≡ inTurn x
   both-sets x =
       ap (onCheck (check t))
       (ap (λ (d : Bool). inNodes d x) (within-both a b (everyone (nodes t)) h k)
       ∙ in-turn (within a (everyone (nodes t))) (within b (everyone (nodes t))) x)
 
-  pub second-inside : within (a ∪ b) (everyone (nodes t)) ≡ true → within b (everyone (nodes t)) ≡ true
+  pub sets-outside : not r ≡ true → (x : Reply) → reply 8 [] ≡ inTurn x
+  sets-outside e x = set-outside t n p (a ∪ b) r found e x ∙ both-sets x
+
+  pub sets-answered : not r ≡ false → (x : Reply) → x ≡ inTurn x
+  sets-answered e x = set-answered t n p (a ∪ b) r found e x ∙ both-sets x
+
+  pub second-inside : not r ≡ false → within b (everyone (nodes t)) ≡ true
   second-inside e =
-      and-parts (within a (everyone (nodes t))) (within b (everyone (nodes t))) (sym (within-both a b (everyone (nodes t)) h k) ∙ e) .1
+      and-parts (within a (everyone (nodes t))) (within b (everyone (nodes t)))
+      (sym (within-both a b (everyone (nodes t)) h k) ∙ set-inside t n p (a ∪ b) r found e) .1

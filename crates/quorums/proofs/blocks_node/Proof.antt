@@ -1,19 +1,15 @@
 -- The table's faults first, then 8 for the set or the node, each handed on whatever the answer would be; then the answer.
-use mathlib.Core.Path.{_≡_, _∙_, ap, subst}
-use mathlib.Core.Bool.{true}
+use mathlib.Core.Path.{_∙_, ap, subst}
 use Prim.Native.Nat.{ℕ, _<_, _≤_}
 use lib.Dec.{ltb}
 use borrow.Author.Tests.{lt-ltb, le-ltb}
-use Rattle.sets.specs.Sets.{within, everyone}
-use Rattle.meanings.specs.Table.{nodes, satisfied}
-use Rattle.meanings.specs.Quorums.{blocks}
+use Rattle.meanings.specs.Table.{nodes}
 use Rattle.meanings.specs.Questions.{yesOrNo, blocksReply}
 use Rattle.faults.proofs.Known.{fault-known}
-use Rattle.quorums.proofs.Opening.{Passed, past-check, found-inside, found-outside, outside, then-inside, then-outside}
+use Rattle.quorums.proofs.Opening.{Passed, past-check, set-outside, then-outside, then-answered}
 use borrow.Author.Needs.{needs}
 use Rattle.quorums.proofs.blocks_node.Statement.{statement}
 use Rattle.quorums.proofs.blocks_node.Tie as tie
-use Rattle.quorums.proofs.blocks_node.Lts as lts
 
 check-table-requires : tie.Need-check-table-requires
 check-table-requires c κs = search needs
@@ -49,33 +45,19 @@ returns-2 c =
     let I = c .before in
     let K = I .before in
     let s = K .before .before .before .before .before in
-    let t = s .args .table .now in
-    let n = K .before .checked .given .0 .0 in
-    outside t n (passed K) (within (s .args .set) (everyone (nodes t)))
-    (found-outside t n (passed K) (s .args .set) (I .inside .result) (I .inside .ensures) (c .if1 .taken)) _
-
--- the set lies within the nodes
-set-inside : (c : tie.Else1) →
-    let s = c .before .before .before .before .before .before .before in
-    within (s .args .set) (everyone (nodes (s .args .table .now))) ≡ true
-set-inside c =
-    let I = c .before in
-    let K = I .before in
-    let s = K .before .before .before .before .before in
-    found-inside (s .args .table .now) (K .before .checked .given .0 .0) (passed K) (s .args .set) (I .inside .result) (I .inside .ensures) (c .if1 .left)
+    set-outside (s .args .table .now) (K .before .checked .given .0 .0) (passed K) (s .args .set) (I .inside .result) (I .inside .ensures) (c .if1 .taken) _
 
 returns-3 : tie.Need-returns-3
 unfolding blocksReply
 returns-3 c =
-    let E = c .before in
-    let K = E .before .before in
+    let I = c .before .before in
+    let K = I .before in
     let s = K .before .before .before .before .before in
     let t = s .args .table .now in
-    let n = K .before .checked .given .0 .0 in
-    then-outside t n (passed K) (within (s .args .set) (everyone (nodes t))) (ltb (s .args .node) (nodes t)) (set-inside E)
+    then-outside t (K .before .checked .given .0 .0) (passed K) (s .args .set) (I .inside .result) (I .inside .ensures) (c .before .if1 .left) (ltb (s .args .node) (nodes t))
     (le-ltb (s .args .node) (nodes t) (subst (λ (k : ℕ). k ≤ s .args .node) (passed K .nodes-are) (c .if2 .taken))) _
 
--- and so does the node
+-- the number is that of a node
 node-inside : (c : tie.Else2) →
     let s = c .before .before .before .before .before .before .before .before in
     s .args .node < nodes (s .args .table .now)
@@ -95,13 +77,14 @@ unfolding blocksReply
 returns-4 c =
     let U = c .before in
     let E = U .before in
-    let K = E .before .before .before in
+    let I = E .before .before in
+    let K = I .before in
     let s = K .before .before .before .before .before in
     let t = s .args .table .now in
     c .yes-or-no .ensures
     ∙ ap yesOrNo (U .blocked .ensures)
-    ∙ then-inside t (K .before .checked .given .0 .0) (passed K) (within (s .args .set) (everyone (nodes t))) (ltb (s .args .node) (nodes t)) (set-inside (E .before))
-    (lt-ltb (s .args .node) (nodes t) (node-inside E)) (yesOrNo (blocks (nodes t) (satisfied t) (s .args .set) (s .args .node)))
+    ∙ then-answered t (K .before .checked .given .0 .0) (passed K) (s .args .set) (I .inside .result) (I .inside .ensures) (E .before .if1 .left) (ltb (s .args .node) (nodes t))
+    (lt-ltb (s .args .node) (nodes t) (node-inside E)) _
 
 pub blocks-node-spec : {M : Type 1} → statement M
 blocks-node-spec =

@@ -1,20 +1,15 @@
 -- The table's faults first, then 8 for either set, each handed on whatever the answer would be; then the set and its rounds.
-use mathlib.Core.Path.{_≡_, _∙_, ap}
-use mathlib.Core.Bool.{true}
-use mathlib.Core.List.{[], _∷_}
-use Rattle.sets.specs.Sets.{within, everyone, _∪_}
-use Rattle.meanings.specs.Table.{nodes, satisfied}
-use Rattle.meanings.specs.Quorums.{greatest}
+use mathlib.Core.Path.{_∙_, ap}
+use Rattle.sets.specs.Sets.{within}
 use Rattle.meanings.specs.Rounds.{rounds}
-use Rattle.meanings.specs.Replies.{reply, _is_, Set, Rounds}
+use Rattle.meanings.specs.Replies.{Rounds}
 use Rattle.meanings.specs.Questions.{greatestReply}
 use Rattle.answers.specs.Said.{greatestSays}
 use Rattle.faults.proofs.Known.{fault-known}
-use Rattle.quorums.proofs.Opening.{Passed, past-check, found-inside, found-outside, inside, outside, both-sets, second-inside}
+use Rattle.quorums.proofs.Opening.{Passed, past-check, sets-outside, sets-answered, second-inside}
 use borrow.Author.Needs.{needs}
 use Rattle.quorums.proofs.greatest_quorum.Statement.{statement}
 use Rattle.quorums.proofs.greatest_quorum.Tie as tie
-use Rattle.quorums.proofs.greatest_quorum.Lts as lts
 
 check-table-requires : tie.Need-check-table-requires
 check-table-requires c κs = search needs
@@ -44,45 +39,34 @@ passed c =
 inside-requires : tie.Need-inside-requires
 inside-requires c κs = passed c .few
 
--- both sets lie within the nodes
-both-inside : (c : tie.Else1) →
-    let s = c .before .before .before .before .before .before .before in
-    within (s .args .out ∪ s .args .within) (everyone (nodes (s .args .table .now))) ≡ true
-both-inside c =
-    let I = c .before in
-    let K = I .before in
-    let s = K .before .before .before .before .before in
-    found-inside (s .args .table .now) (K .before .checked .given .0 .0) (passed K) (s .args .out ∪ s .args .within) (I .inside .result) (I .inside .ensures) (c .if1 .left)
-
 returns-2 : tie.Need-returns-2
 unfolding greatestReply
 returns-2 c =
     let I = c .before in
     let K = I .before in
     let s = K .before .before .before .before .before in
-    let t = s .args .table .now in
-    let n = K .before .checked .given .0 .0 in
-    let m = s .args .out ∪ s .args .within in
-    outside t n (passed K) (within m (everyone (nodes t))) (found-outside t n (passed K) m (I .inside .result) (I .inside .ensures) (c .if1 .taken)) (reply 0 (Set is greatest (nodes t) (satisfied t) (s .args .out) (s .args .within) ∷ Rounds is rounds (nodes t) (satisfied t) (s .args .out) (s .args .within) ∷ []))
-    ∙ both-sets t (s .args .out) (s .args .within) (s .fits .out .fits) (s .fits .within .fits) (reply 0 (Set is greatest (nodes t) (satisfied t) (s .args .out) (s .args .within) ∷ Rounds is rounds (nodes t) (satisfied t) (s .args .out) (s .args .within) ∷ []))
+    sets-outside (s .args .table .now) (K .before .checked .given .0 .0) (passed K) (s .args .out) (s .args .within) (s .fits .out .fits) (s .fits .within .fits)
+    (I .inside .result) (I .inside .ensures) (c .if1 .taken) _
 
 greatest-of-requires : tie.Need-greatest-of-requires
 greatest-of-requires c κs =
-    let K = c .before .before in
-    let s = K .before .before .before .before .before in
-    (passed K .checked, second-inside (s .args .table .now) (s .args .out) (s .args .within) (s .fits .out .fits) (s .fits .within .fits) (both-inside c))
+    let I = c .before in
+    let K = I .before in
+    let s = K .before .before .before .before .before in (
+      passed K .checked,
+      second-inside (s .args .table .now) (K .before .checked .given .0 .0) (passed K) (s .args .out) (s .args .within) (s .fits .out .fits) (s .fits .within .fits)
+          (I .inside .result) (I .inside .ensures) (c .if1 .left),
+    )
 
 returns-3 : tie.Need-returns-3
 unfolding greatestReply
 returns-3 c =
-    let E = c .before in
-    let K = E .before .before in
+    let I = c .before .before in
+    let K = I .before in
     let s = K .before .before .before .before .before in
-    let t = s .args .table .now in
-    let x = (reply 0 (Set is greatest (nodes t) (satisfied t) (s .args .out) (s .args .within) ∷ Rounds is rounds (nodes t) (satisfied t) (s .args .out) (s .args .within) ∷ [])) in
     ap greatestSays (c .greatest-of .ensures)
-    ∙ inside t (K .before .checked .given .0 .0) (passed K) (within (s .args .out ∪ s .args .within) (everyone (nodes t))) (both-inside E) x
-    ∙ both-sets t (s .args .out) (s .args .within) (s .fits .out .fits) (s .fits .within .fits) x
+    ∙ sets-answered (s .args .table .now) (K .before .checked .given .0 .0) (passed K) (s .args .out) (s .args .within) (s .fits .out .fits) (s .fits .within .fits)
+    (I .inside .result) (I .inside .ensures) (c .before .if1 .left) _
 
 pub greatest-quorum-spec : {M : Type 1} → statement M
 greatest-quorum-spec =

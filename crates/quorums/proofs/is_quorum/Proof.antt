@@ -1,16 +1,11 @@
 -- The table's faults first, then 8 for either set, each handed on whatever the answer would be; then the answer.
-use mathlib.Core.Path.{_≡_, _∙_, ap}
-use mathlib.Core.Bool.{true}
-use Rattle.sets.specs.Sets.{within, everyone, _∪_}
-use Rattle.meanings.specs.Table.{nodes, satisfied}
-use Rattle.meanings.specs.Quorums.{quorum}
+use mathlib.Core.Path.{_∙_, ap}
 use Rattle.meanings.specs.Questions.{yesOrNo, quorumReply}
 use Rattle.faults.proofs.Known.{fault-known}
-use Rattle.quorums.proofs.Opening.{Passed, past-check, found-inside, found-outside, inside, outside, both-sets, second-inside}
+use Rattle.quorums.proofs.Opening.{Passed, past-check, sets-outside, sets-answered, second-inside}
 use borrow.Author.Needs.{needs}
 use Rattle.quorums.proofs.is_quorum.Statement.{statement}
 use Rattle.quorums.proofs.is_quorum.Tie as tie
-use Rattle.quorums.proofs.is_quorum.Lts as lts
 
 check-table-requires : tie.Need-check-table-requires
 check-table-requires c κs = search needs
@@ -40,33 +35,24 @@ passed c =
 inside-requires : tie.Need-inside-requires
 inside-requires c κs = passed c .few
 
--- both sets lie within the nodes
-both-inside : (c : tie.Else1) →
-    let s = c .before .before .before .before .before .before .before in
-    within (s .args .out ∪ s .args .set) (everyone (nodes (s .args .table .now))) ≡ true
-both-inside c =
-    let I = c .before in
-    let K = I .before in
-    let s = K .before .before .before .before .before in
-    found-inside (s .args .table .now) (K .before .checked .given .0 .0) (passed K) (s .args .out ∪ s .args .set) (I .inside .result) (I .inside .ensures) (c .if1 .left)
-
 returns-2 : tie.Need-returns-2
 unfolding quorumReply
 returns-2 c =
     let I = c .before in
     let K = I .before in
     let s = K .before .before .before .before .before in
-    let t = s .args .table .now in
-    let n = K .before .checked .given .0 .0 in
-    let m = s .args .out ∪ s .args .set in
-    outside t n (passed K) (within m (everyone (nodes t))) (found-outside t n (passed K) m (I .inside .result) (I .inside .ensures) (c .if1 .taken)) (yesOrNo (quorum (nodes t) (satisfied t) (s .args .out) (s .args .set)))
-    ∙ both-sets t (s .args .out) (s .args .set) (s .fits .out .fits) (s .fits .set .fits) (yesOrNo (quorum (nodes t) (satisfied t) (s .args .out) (s .args .set)))
+    sets-outside (s .args .table .now) (K .before .checked .given .0 .0) (passed K) (s .args .out) (s .args .set) (s .fits .out .fits) (s .fits .set .fits)
+    (I .inside .result) (I .inside .ensures) (c .if1 .taken) _
 
 quorum-of-requires : tie.Need-quorum-of-requires
 quorum-of-requires c κs =
-    let K = c .before .before in
-    let s = K .before .before .before .before .before in
-    (passed K .checked, second-inside (s .args .table .now) (s .args .out) (s .args .set) (s .fits .out .fits) (s .fits .set .fits) (both-inside c))
+    let I = c .before in
+    let K = I .before in
+    let s = K .before .before .before .before .before in (
+      passed K .checked,
+      second-inside (s .args .table .now) (K .before .checked .given .0 .0) (passed K) (s .args .out) (s .args .set) (s .fits .out .fits) (s .fits .set .fits)
+          (I .inside .result) (I .inside .ensures) (c .if1 .left),
+    )
 
 yes-or-no-requires : tie.Need-yes-or-no-requires
 yes-or-no-requires c κs = search needs
@@ -75,15 +61,13 @@ returns-3 : tie.Need-returns-3
 unfolding quorumReply
 returns-3 c =
     let Q = c .before in
-    let E = Q .before in
-    let K = E .before .before in
+    let I = Q .before .before in
+    let K = I .before in
     let s = K .before .before .before .before .before in
-    let t = s .args .table .now in
-    let x = yesOrNo (quorum (nodes t) (satisfied t) (s .args .out) (s .args .set)) in
     c .yes-or-no .ensures
     ∙ ap yesOrNo (Q .quorum-of .ensures)
-    ∙ inside t (K .before .checked .given .0 .0) (passed K) (within (s .args .out ∪ s .args .set) (everyone (nodes t))) (both-inside E) x
-    ∙ both-sets t (s .args .out) (s .args .set) (s .fits .out .fits) (s .fits .set .fits) x
+    ∙ sets-answered (s .args .table .now) (K .before .checked .given .0 .0) (passed K) (s .args .out) (s .args .set) (s .fits .out .fits) (s .fits .set .fits)
+    (I .inside .result) (I .inside .ensures) (Q .before .if1 .left) _
 
 pub is-quorum-spec : {M : Type 1} → statement M
 is-quorum-spec =
