@@ -100,7 +100,7 @@ abbrev opening : List Named → ℕ
 opening [] = 10
 opening (x ∷ l) = rank (x .field)
 
--- what an answer of the search names first, and its number
+-- the answers that the search gives
 abbrev FromSearch : Intact → Type 0
 FromSearch (Are q k) = Unit {0}
 FromSearch (Divided a b k) = Unit {0}
@@ -137,7 +137,7 @@ after-inside false x r w e = absurd (not-eight r w (ap (λ (y : Reply). y .numbe
 abbrev pub endingOf : List ℕ → ℕ → Ended
 endingOf t ill = intactSearch (nodes t) (satisfied t) ill
 
-module _ (t : List ℕ) (ill allowance : ℕ) where
+module _ (t : List ℕ) (ill : ℕ) where
   abbrev n : ℕ
   n = nodes t
 
@@ -147,15 +147,6 @@ module _ (t : List ℕ) (ill allowance : ℕ) where
   abbrev ending : Ended
   ending = endingOf t ill
 
-  -- whoever is told an answer of the search has a sound table, an ill set of its nodes, and the search's answer
-  searched : (r : Intact) → FromSearch r → intactSays r ≡ intactReply t ill allowance
-      → (check t ≡ sound) × (liesWithin ill (everyone n) ≡ true) × (r ≡ within allowance 0 ending)
-  unfolding intactReply
-  searched r w e =
-      let a = after-check (check t) (inNodes (liesWithin ill (everyone n)) (replySays allowance ending)) r w e in
-      let b = after-inside (liesWithin ill (everyone n)) (replySays allowance ending) r w (a .1) in
-      (a .0, b .0, intact-exact r (within allowance 0 ending) (b .1 ∙ sym (says-within allowance ending)))
-
   -- the search ends with the intact nodes where all plain quorums intersect, and with two of them apart elsewhere
   pub ends-intact : liesWithin ill (everyone n) ≡ true → intersecting n s nobody ≡ true → (k : ℕ) × (ending ≡ intactAre (intactNodes n s ill) k)
   ends-intact h i = intact-answer n s (satisfied-monotone t) ill (within-lt n ill (everyone n) (everyone-lt n) h) i
@@ -163,48 +154,58 @@ module _ (t : List ℕ) (ill allowance : ℕ) where
   pub ends-divided : intersecting n s nobody ≡ false → (x : Pair) × (k : ℕ) × Sound n s nobody x × (ending ≡ divided x k)
   ends-divided i = intact-divided n s (satisfied-monotone t) ill i
 
-  answer-means : (r : Intact) → intactSays r ≡ intactReply t ill allowance
-      → (q k : ℕ) → r ≡ Are q k → (q ≡ intactNodes n s ill) × (intersecting n s nobody ≡ true)
-  answer-means r e q k f =
-      let a = searched (Are q k) tt (sym (ap intactSays f) ∙ e) in
-      let b = answered allowance ending (Are q k) (a .2) (λ z. omega arith) .0 in
-      ⊎-elim
-      (λ i. let w = ends-intact (a .1) i in
-      let c : Are (intactNodes n s ill) (w .0) ≡ Are q k = sym (ap plain (w .1)) ∙ b in
-      let d : intactNodes n s ill ≡ q = cc in
-      (sym d, i))
-      (λ i. let w = ends-divided i in
-      let c : Divided (w .0 .first) (w .0 .second) (w .1) ≡ Are q k = sym (ap plain (w .3)) ∙ b in
-      let d : _≡_ {A = ℕ} 1 0 = ap kind c in
-      let f : ⊥ = omega arith in
-      absurd f)
-      (either (intersecting n s nobody))
+  module _ (allowance : ℕ) where
+    -- whoever is told an answer of the search has a sound table, an ill set of its nodes, and the search's answer
+    searched : (r : Intact) → FromSearch r → intactSays r ≡ intactReply t ill allowance
+        → (check t ≡ sound) × (liesWithin ill (everyone n) ≡ true) × (r ≡ within allowance 0 ending)
+    unfolding intactReply
+    searched r w e =
+        let a = after-check (check t) (inNodes (liesWithin ill (everyone n)) (replySays allowance ending)) r w e in
+        let b = after-inside (liesWithin ill (everyone n)) (replySays allowance ending) r w (a .1) in
+        (a .0, b .0, intact-exact r (within allowance 0 ending) (b .1 ∙ sym (says-within allowance ending)))
 
-  pair-means : (r : Intact) → intactSays r ≡ intactReply t ill allowance
-      → (p q k : ℕ) → r ≡ Divided p q k → (disjointQuorums n s nobody p q ≡ true) × (intersecting n s nobody ≡ false)
-  pair-means r e p q k f =
-      let a = searched (Divided p q k) tt (sym (ap intactSays f) ∙ e) in
-      let b = answered allowance ending (Divided p q k) (a .2) (λ z. omega arith) .0 in
-      ⊎-elim
-      (λ i. let w = ends-intact (a .1) i in
-      let c : Are (intactNodes n s ill) (w .0) ≡ Divided p q k = sym (ap plain (w .1)) ∙ b in
-      let d : _≡_ {A = ℕ} 0 1 = ap kind c in
-      let f : ⊥ = omega arith in
-      absurd f)
-      (λ i. let w = ends-divided i in
-      let x = w .0 in
-      let c : Divided (x .first) (x .second) (w .1) ≡ Divided p q k = sym (ap plain (w .3)) ∙ b in
-      let f : x .first ≡ p = cc in
-      let g : x .second ≡ q = cc in (
-        subst (λ (m : ℕ). disjointQuorums n s nobody p m ≡ true) g
-            (subst (λ (m : ℕ). disjointQuorums n s nobody m (x .second) ≡ true) f (sound-disjoint n s nobody (satisfied-monotone t) x (w .2))),
-        i,
-      ))
-      (either (intersecting n s nobody))
+    answer-means : (r : Intact) → intactSays r ≡ intactReply t ill allowance
+        → (q k : ℕ) → r ≡ Are q k → (q ≡ intactNodes n s ill) × (intersecting n s nobody ≡ true)
+    answer-means r e q k f =
+        let a = searched (Are q k) tt (sym (ap intactSays f) ∙ e) in
+        let b = answered allowance ending (Are q k) (a .2) (λ z. omega arith) .0 in
+        ⊎-elim
+        (λ i. let w = ends-intact (a .1) i in
+        let c : Are (intactNodes n s ill) (w .0) ≡ Are q k = sym (ap plain (w .1)) ∙ b in
+        let d : intactNodes n s ill ≡ q = cc in
+        (sym d, i))
+        (λ i. let w = ends-divided i in
+        let c : Divided (w .0 .first) (w .0 .second) (w .1) ≡ Are q k = sym (ap plain (w .3)) ∙ b in
+        let d : _≡_ {A = ℕ} 1 0 = ap kind c in
+        let f : ⊥ = omega arith in
+        absurd f)
+        (either (intersecting n s nobody))
 
-  -- what is told carries its meaning
-  pub promised : (r : Intact) → intactSays r ≡ intactReply t ill allowance → IntactPromise t ill allowance r
-  promised r e = record { told = e; means = answer-means r e; divided-means = pair-means r e }
+    pair-means : (r : Intact) → intactSays r ≡ intactReply t ill allowance
+        → (p q k : ℕ) → r ≡ Divided p q k → (disjointQuorums n s nobody p q ≡ true) × (intersecting n s nobody ≡ false)
+    pair-means r e p q k f =
+        let a = searched (Divided p q k) tt (sym (ap intactSays f) ∙ e) in
+        let b = answered allowance ending (Divided p q k) (a .2) (λ z. omega arith) .0 in
+        ⊎-elim
+        (λ i. let w = ends-intact (a .1) i in
+        let c : Are (intactNodes n s ill) (w .0) ≡ Divided p q k = sym (ap plain (w .1)) ∙ b in
+        let d : _≡_ {A = ℕ} 0 1 = ap kind c in
+        let f : ⊥ = omega arith in
+        absurd f)
+        (λ i. let w = ends-divided i in
+        let x = w .0 in
+        let c : Divided (x .first) (x .second) (w .1) ≡ Divided p q k = sym (ap plain (w .3)) ∙ b in
+        let f : x .first ≡ p = cc in
+        let g : x .second ≡ q = cc in (
+          subst (λ (m : ℕ). disjointQuorums n s nobody p m ≡ true) g
+              (subst (λ (m : ℕ). disjointQuorums n s nobody m (x .second) ≡ true) f (sound-disjoint n s nobody (satisfied-monotone t) x (w .2))),
+          i,
+        ))
+        (either (intersecting n s nobody))
+
+    -- what is told carries its meaning
+    pub promised : (r : Intact) → intactSays r ≡ intactReply t ill allowance → IntactPromise t ill allowance r
+    promised r e = record { told = e; means = answer-means r e; divided-means = pair-means r e }
 
 -- ---- the rounds by themselves: where all plain quorums intersect, from all nodes outside the ill set they end with the intact nodes,
 -- after fewer than 2 ^ (n + 2) visits
@@ -246,7 +247,7 @@ module _ (t : List ℕ) (ill allowance : ℕ) (r : Intact) (p : IntactPromise t 
   pub says-intact : check t ≡ sound → liesWithin ill (everyone (nodes t)) ≡ true → intersecting (nodes t) (satisfied t) nobody ≡ true
       → visitsOf (endingOf t ill) ≤ allowance → r ≡ Are (intactNodes (nodes t) (satisfied t) ill) (visitsOf (endingOf t ill))
   says-intact c h i l =
-      let w = ends-intact t ill allowance h i in
+      let w = ends-intact t ill h i in
       answer-is c h ∙ in-time allowance (endingOf t ill) l ∙ ap plain (w .1)
       ∙ ap (Are (intactNodes (nodes t) (satisfied t) ill)) (sym (ap visitsOf (w .1)))
 
@@ -254,7 +255,7 @@ module _ (t : List ℕ) (ill allowance : ℕ) (r : Intact) (p : IntactPromise t 
   pub says-divided : check t ≡ sound → liesWithin ill (everyone (nodes t)) ≡ true → intersecting (nodes t) (satisfied t) nobody ≡ false
       → visitsOf (endingOf t ill) ≤ allowance → (a b : ℕ) × (r ≡ Divided a b (visitsOf (endingOf t ill)))
   says-divided c h i l =
-      let w = ends-divided t ill allowance i in (
+      let w = ends-divided t ill i in (
         w .0 .first,
         w .0 .second,
         answer-is c h ∙ in-time allowance (endingOf t ill) l ∙ ap plain (w .3)
@@ -282,8 +283,8 @@ module _ (t : List ℕ) (ill allowance : ℕ) (r : Intact) (p : IntactPromise t 
       let b = answered allowance (endingOf t ill) Unsplit (a .2) (λ z. omega arith) .0 in
       let k : kindOf (endingOf t ill) ≡ 3 = sym (plain-kind (endingOf t ill)) ∙ ap kind b in
       ⊎-elim
-      (λ i. let z : _≡_ {A = ℕ} 0 3 = sym (ap kindOf (ends-intact t ill allowance (a .1) i .1)) ∙ k in omega arith)
-      (λ i. let z : _≡_ {A = ℕ} 1 3 = sym (ap kindOf (ends-divided t ill allowance i .3)) ∙ k in omega arith)
+      (λ i. let z : _≡_ {A = ℕ} 0 3 = sym (ap kindOf (ends-intact t ill (a .1) i .1)) ∙ k in omega arith)
+      (λ i. let z : _≡_ {A = ℕ} 1 3 = sym (ap kindOf (ends-divided t ill i .3)) ∙ k in omega arith)
       (either (intersecting (nodes t) (satisfied t) nobody))
 
 -- A larger allowance never alters an answer: only 9 can change.

@@ -2,13 +2,12 @@
 // allowance of visits that serves all their verdicts in turn.
 ghost use mathlib.Core.Path.{_≡_};
 ghost use mathlib.Core.Bool.{true};
-ghost use Prim.Native.Nat.{ℕ, suc, _<_, _^_};
-ghost use Rattle.sets.specs.Sets.{nobody, everyone, _∖_, within as withinSet};
+ghost use Prim.Native.Nat.{suc};
+ghost use Rattle.sets.specs.Sets.{everyone, _∖_, within as withinSet};
 ghost use Rattle.meanings.specs.Table.{nodes as nodesOf, satisfied};
 ghost use Rattle.meanings.specs.Faults.{check, sound};
 ghost use Rattle.meanings.specs.Trees.{walk, verdictTree};
 ghost use Rattle.meanings.specs.Intact.{nextU, roundsFrom, intactSearch};
-ghost use Rattle.groups.specs.Groups.{Grouped};
 ghost use Rattle.rounds.specs.Rounds.{Ground};
 ghost use Rattle.verdict.specs.Search.{within as verdictWithin};
 ghost use Rattle.intact.specs.Rounds.{Asked, Turned, within, handedOn, onYes, onNo};
