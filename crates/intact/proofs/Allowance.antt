@@ -2,15 +2,14 @@
 -- that does not hands its visits on. Visits only grow, so an allowance that has ended stays ended.
 use mathlib.Core.Path.{_≡_, refl, sym, ap, ap₂, _∙_, subst}
 use mathlib.Core.Bool.{Bool, true, false, cond}
-use Prim.Native.Nat.{ℕ, suc, _+_, _≤_, _<_}
+use Prim.Native.Nat.{ℕ, _+_, _≤_, _<_}
 use native.Mathlib.Omega.{arith}
-use borrow.Author.Tests.{le-leb, lt-leb, leb-true, leb-false}
+use borrow.Author.Tests.{lt-leb, leb-false}
 use lib.Dec.{leb}
 use Rattle.meanings.specs.Trees.{Pair, Walk, hit, missed, stuck}
 use Rattle.meanings.specs.Intact.{Ended, intactAre, divided, stuckAfter, endedLater, onRound, onPlain}
 use Rattle.answers.specs.declared.Verdict.{Verdict}
 use Rattle.answers.specs.declared.Verdict.the-variants as Vx
-use Rattle.answers.specs.declared.Intact.{Intact}
 use Rattle.answers.specs.declared.Intact.the-variants as Ix
 use Rattle.verdict.specs.Search.{within as verdictWithin}
 use Rattle.verdict.proofs.Allowance.{NotYes}

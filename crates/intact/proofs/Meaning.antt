@@ -2,17 +2,16 @@
 -- the search ends with the nodes that some DSet around the ill set leaves out, and elsewhere with two plain quorums apart. An allowance
 -- only decides whether that end is reached: it is given exactly when the sum of the visits is within the allowance.
 use mathlib.Core.Path.{_≡_, refl, sym, ap, _∙_, subst}
-use mathlib.Core.Bool.{Bool, true, false, cond}
+use mathlib.Core.Bool.{Bool, true, false}
 use mathlib.Core.List.{List, [], _∷_}
-use mathlib.Core.Logic.{_⊎_, inl, inr, ⊎-elim}
+use mathlib.Core.Logic.{⊎-elim}
 use Prim.Native.Nat.{ℕ, suc, _+_, _^_, _≤_, _<_}
 use native.Mathlib.Nat.{zero-add}
 use native.Mathlib.Omega.{arith}
 use borrow.Author.Tests.{le-leb, lt-leb}
-use lib.Dec.{leb}
 use lib.Pow.{pow-mono}
 use Rattle.sets.specs.Sets.{nobody, everyone, _∖_, size, within as liesWithin}
-use Rattle.sets.proofs.Bools.{either, clash}
+use Rattle.sets.proofs.Bools.{either}
 use Rattle.sets.proofs.Members.{everyone-lt, within-lt}
 use Rattle.sets.proofs.Size.{le-or-lt, size-le}
 use Rattle.meanings.specs.Table.{nodes, satisfied}
@@ -25,7 +24,7 @@ use Rattle.meanings.specs.Questions.{onCheck, inNodes, intactReply, intactSays 
 use Rattle.theory.proofs.Verdict.{Sound, sound-disjoint}
 use Rattle.theory.proofs.Intact.{start, rounds-answer, intact-answer, intact-divided}
 use Rattle.judge.proofs.Monotone.{satisfied-monotone}
-use Rattle.answers.specs.Said.{faultSays, intactSays}
+use Rattle.answers.specs.Said.{intactSays}
 use Rattle.answers.specs.declared.Intact.{Intact}
 use Rattle.answers.specs.declared.Intact.the-variants.{Are, Divided, Spent, Unsplit, Outside, Bad}
 use Rattle.answers.proofs.Exact.{intact-exact}

@@ -3,7 +3,7 @@
 use mathlib.Core.Path.{_≡_, refl, sym, ap, ap₂, _∙_, subst}
 use mathlib.Core.Bool.{Bool, true, false}
 use mathlib.Core.List.{List}
-use Prim.Native.Nat.{ℕ, zero, suc, _+_, _/_, _^_, _≤_, _<_}
+use Prim.Native.Nat.{ℕ, zero, suc, _/_, _^_, _<_}
 use native.Mathlib.Nat.{not-suc-le-zero}
 use native.Mathlib.Omega.{arith}
 use borrow.Author.Tests.{eq-eqb, ne-eqb}
@@ -15,7 +15,7 @@ use Rattle.sets.proofs.Size.{sub-size, size-le, size-at}
 use Rattle.meanings.specs.Table.{nodes, satisfied}
 use Rattle.meanings.specs.Quorums.{ground, greatest}
 use Rattle.meanings.specs.Trees.{Pair, Walk, hit, missed, stuck, verdictTree, walk}
-use Rattle.meanings.specs.Intact.{Ended, intactAre, endedLater, verdict, nextU, onRound, roundsFrom, intactSearch}
+use Rattle.meanings.specs.Intact.{Ended, endedLater, verdict, nextU, roundsFrom, intactSearch}
 use Rattle.theory.proofs.Quorum.{Monotone}
 use Rattle.theory.proofs.Greatest.{greatest-lt, greatest-sub}
 use Rattle.theory.proofs.Verdict.{Sound, Decided, all-meet, two-apart, decided}

@@ -1,6 +1,6 @@
 -- The intact rounds, one at a time, and their answer within an allowance.
 use mathlib.Core.Path.{_≡_}
-use mathlib.Core.Bool.{Bool, true, false, cond}
+use mathlib.Core.Bool.{cond}
 use mathlib.Core.List.{List}
 use Prim.Native.Nat.{ℕ, suc, _+_, _^_, _<_}
 use lib.Dec.{leb}

@@ -5,9 +5,6 @@ use Rattle.intact.proofs.Taken.{not-no, no-no}
 use borrow.Author.Needs.{needs}
 use Rattle.intact.proofs.divided.Statement.{statement}
 use Rattle.intact.proofs.divided.Tie as tie
-use Rattle.intact.proofs.divided.Reads as reads
-use Rattle.intact.proofs.divided.Lts as lts
-use Rattle.intact.proofs.handed_on.Reads as handed-on-reads
 
 enum-known-found : tie.Need-enum-known-found
 enum-known-found c = search needs

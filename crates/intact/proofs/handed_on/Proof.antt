@@ -5,8 +5,6 @@ use Rattle.intact.proofs.Taken.{not-spent}
 use borrow.Author.Needs.{needs}
 use Rattle.intact.proofs.handed_on.Statement.{statement}
 use Rattle.intact.proofs.handed_on.Tie as tie
-use Rattle.intact.proofs.handed_on.Reads as reads
-use Rattle.intact.proofs.handed_on.Lts as lts
 
 enum-known-found : tie.Need-enum-known-found
 enum-known-found c = search needs

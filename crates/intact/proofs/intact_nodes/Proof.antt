@@ -21,12 +21,6 @@ use Rattle.intact.proofs.Meaning.{says-within, promised}
 use borrow.Author.Needs.{needs}
 use Rattle.intact.proofs.intact_nodes.Statement.{statement}
 use Rattle.intact.proofs.intact_nodes.Tie as tie
-use Rattle.intact.proofs.intact_nodes.Reads as reads
-use Rattle.intact.proofs.intact_nodes.Lts as lts
-use Rattle.faults.proofs.check_table.Reads as check-table-reads
-use Rattle.intact.proofs.intact_of.Reads as intact-of-reads
-use Rattle.quorums.proofs.fault_of.Reads as fault-of-reads
-use Rattle.quorums.proofs.inside.Reads as inside-reads
 
 -- what is told, in the order of the numbers
 told-fault : (t : List ℕ) (o : Checked) → checkedSays o ≡ checkReply t → (f : Fault) → o ≡ Cx.Bad f → (ill allowance : ℕ)

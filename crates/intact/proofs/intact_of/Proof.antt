@@ -8,11 +8,6 @@ use Rattle.quorums.proofs.Opening.{inside-lt}
 use borrow.Author.Needs.{needs}
 use Rattle.intact.proofs.intact_of.Statement.{statement}
 use Rattle.intact.proofs.intact_of.Tie as tie
-use Rattle.intact.proofs.intact_of.Reads as reads
-use Rattle.intact.proofs.intact_of.Lts as lts
-use Rattle.groups.proofs.group.Reads as group-reads
-use Rattle.intact.proofs.verdict_then_rounds.Reads as verdict-then-rounds-reads
-use Rattle.sets.proofs.all.Reads as all-reads
 
 slice-aggregate-group : tie.Need-slice-aggregate-group
 slice-aggregate-group c = search needs

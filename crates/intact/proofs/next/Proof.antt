@@ -12,10 +12,6 @@ use Rattle.intact.proofs.Rounds.{first-empty, second-empty, shared}
 use borrow.Author.Needs.{needs}
 use Rattle.intact.proofs.next.Statement.{statement}
 use Rattle.intact.proofs.next.Tie as tie
-use Rattle.intact.proofs.next.Reads as reads
-use Rattle.intact.proofs.next.Lts as lts
-use Rattle.rounds.proofs.survivors.Reads as survivors-reads
-use Rattle.sets.proofs.without.Reads as without-reads
 
 -- what q has left without one of the two is a set of nodes
 part : (t plan : List ℕ) (groups q x o : ℕ) → Ground t plan groups q → o ≡ q ∖ x → Ground t plan groups o

@@ -1,5 +1,5 @@
 -- A verdict other than no ends the rounds here; a no leads on to fewer nodes, from which the rounds answer the same.
-use mathlib.Core.Path.{_≡_, sym, ap, _∙_, subst}
+use mathlib.Core.Path.{_≡_, sym, _∙_, subst}
 use mathlib.Core.List.{List}
 use Prim.Native.Nat.{ℕ, _^_, _<_}
 use Rattle.sets.specs.Sets.{nobody}
@@ -11,12 +11,6 @@ use Rattle.intact.proofs.Rounds.{stops, goes-on}
 use borrow.Author.Needs.{needs}
 use Rattle.intact.proofs.round.Statement.{statement}
 use Rattle.intact.proofs.round.Tie as tie
-use Rattle.intact.proofs.round.Reads as reads
-use Rattle.intact.proofs.round.Lts as lts
-use Rattle.intact.proofs.next.Reads as next-reads
-use Rattle.intact.proofs.settled.Reads as settled-reads
-use Rattle.intact.proofs.verdict_of.Reads as verdict-of-reads
-use Rattle.rounds.proofs.survivors.Reads as survivors-reads
 
 -- q is a set of nodes
 quorum-lt : (t : List ℕ) (u q : ℕ) → q ≡ greatest (nodes t) (satisfied t) nobody u → q < 2 ^ nodes t

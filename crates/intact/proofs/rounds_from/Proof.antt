@@ -1,15 +1,12 @@
 -- The rounds from here, after the visits so far, answer what the rounds from the start do. Each round leaves fewer nodes, so they end.
 use mathlib.Core.Path.{_≡_, refl, _∙_, subst}
-use Prim.Native.Nat.{ℕ, _^_, _<_}
+use Prim.Native.Nat.{_^_, _<_}
 use Rattle.sets.specs.Sets.{size}
 use Rattle.meanings.specs.Table.{nodes}
 use Rattle.intact.specs.Rounds.{within, roundsOf, Sequel, Turned}
 use borrow.Author.Needs.{needs}
 use Rattle.intact.proofs.rounds_from.Statement.{statement}
 use Rattle.intact.proofs.rounds_from.Tie as tie
-use Rattle.intact.proofs.rounds_from.Reads as reads
-use Rattle.intact.proofs.rounds_from.Lts as lts
-use Rattle.intact.proofs.round.Reads as round-reads
 
 abbrev Inv-loop : tie.InvT-loop
 Inv-loop t plan groups all u allowance spent left₀ visits₀ left visits =

@@ -6,9 +6,6 @@ use Rattle.intact.proofs.Taken.{no-yes}
 use borrow.Author.Needs.{needs}
 use Rattle.intact.proofs.settled.Statement.{statement}
 use Rattle.intact.proofs.settled.Tie as tie
-use Rattle.intact.proofs.settled.Reads as reads
-use Rattle.intact.proofs.settled.Lts as lts
-use Rattle.intact.proofs.handed_on.Reads as handed-on-reads
 
 enum-known-found : tie.Need-enum-known-found
 enum-known-found c = search needs

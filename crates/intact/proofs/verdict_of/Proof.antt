@@ -5,11 +5,6 @@ use Rattle.intact.proofs.Rounds.{visiting, tree-is}
 use borrow.Author.Needs.{needs}
 use Rattle.intact.proofs.verdict_of.Statement.{statement}
 use Rattle.intact.proofs.verdict_of.Tie as tie
-use Rattle.intact.proofs.verdict_of.Reads as reads
-use Rattle.intact.proofs.verdict_of.Lts as lts
-use Rattle.sets.proofs.count.Reads as count-reads
-use Rattle.sets.proofs.without.Reads as without-reads
-use Rattle.verdict.proofs.search.Reads as search-reads
 
 without-requires : tie.Need-without-requires
 without-requires c κs = search needs

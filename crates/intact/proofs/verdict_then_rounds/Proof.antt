@@ -8,12 +8,6 @@ use Rattle.intact.proofs.Rounds.{plain-stops, plain-goes-on}
 use borrow.Author.Needs.{needs}
 use Rattle.intact.proofs.verdict_then_rounds.Statement.{statement}
 use Rattle.intact.proofs.verdict_then_rounds.Tie as tie
-use Rattle.intact.proofs.verdict_then_rounds.Reads as reads
-use Rattle.intact.proofs.verdict_then_rounds.Lts as lts
-use Rattle.intact.proofs.divided.Reads as divided-reads
-use Rattle.intact.proofs.rounds_from.Reads as rounds-from-reads
-use Rattle.intact.proofs.verdict_of.Reads as verdict-of-reads
-use Rattle.sets.proofs.without.Reads as without-reads
 
 verdict-of-requires : tie.Need-verdict-of-requires
 verdict-of-requires c κs =
