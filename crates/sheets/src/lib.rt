@@ -110,13 +110,13 @@ fn put_lines(table: &[u64], sheet: &mut [u8])
     ensures { λ _. ⌜ now (sheet .exit) ≡ atFront (sheetText (now (table .entry))) (now (sheet .entry)) ⌝ }
 {
     let mut at = 0;
-    let mut r = 0;
-    while r < table.len() / 2 {
-        let level = tables::level(table, r);
-        let threshold = tables::threshold(table, r);
-        let members = tables::members(table, r);
+    let mut line = 0;
+    while line < table.len() / 2 {
+        let level = tables::level(table, line);
+        let threshold = tables::threshold(table, line);
+        let members = tables::members(table, line);
         at += lines::put_line(&mut sheet[at..], level, threshold, members);
-        r += 1;
+        line += 1;
     }
 }
 

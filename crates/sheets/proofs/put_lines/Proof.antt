@@ -1,4 +1,4 @@
--- What is to be written from here on is the text from record r on, at the place `at`; a line moves both on, and in the end nothing is
+-- The text from the record that is reached is still to be written, at the place `at`; each line moves both on, and in the end nothing is
 -- left to write.
 use borrow.Author.Needs.{needs}
 use native.Mathlib.Omega.{arith}
@@ -19,44 +19,44 @@ use Rattle.sheets.proofs.put_lines.Statement.{statement}
 use Rattle.sheets.proofs.put_lines.Tie as tie
 
 abbrev Inv-loop : tie.InvT-loop
-Inv-loop table sheet₀ at₀ r₀ sheet at r =
-    (r ≤ records table)
+Inv-loop table sheet₀ at₀ line₀ sheet at line =
+    (line ≤ records table)
     × (length sheet ≡ length sheet₀)
-    × (at + length (textFrom table r) ≡ length (sheetText table))
-    × (atPlace at (textFrom table r) sheet ≡ atFront (sheetText table) sheet₀)
+    × (at + length (textFrom table line) ≡ length (sheetText table))
+    × (atPlace at (textFrom table line) sheet ≡ atFront (sheetText table) sheet₀)
 
 abbrev μ-loop : tie.MeasureT-loop
-μ-loop table sheet₀ at₀ r₀ sheet at r = records table - r
+μ-loop table sheet₀ at₀ line₀ sheet at line = records table - line
 
 -- the record that is reached
-inside : (c : tie.In-loop Inv-loop μ-loop) → c .before .loop .r < records (c .before .before .before .before .args .table .now)
+inside : (c : tie.In-loop Inv-loop μ-loop) → c .before .loop .line < records (c .before .before .before .before .args .table .now)
 unfolding records
 inside c = omega arith
 
-reached : (c : tie.In-loop Inv-loop μ-loop) → 2 * c .before .loop .r + 1 < length (c .before .before .before .before .args .table .now)
-reached c = record-in (c .before .before .before .before .args .table .now) (c .before .loop .r) (inside c)
+reached : (c : tie.In-loop Inv-loop μ-loop) → 2 * c .before .loop .line + 1 < length (c .before .before .before .before .args .table .now)
+reached c = record-in (c .before .before .before .before .args .table .now) (c .before .loop .line) (inside c)
 
 -- its line fits into what is left, with the lines after it
 fits : (c : tie.In-loop Inv-loop μ-loop) →
     let l = c .before in
     let t = l .before .before .before .args .table .now in
-    l .loop .at + length (recordText t (l .loop .r)) + length (textFrom t (l .loop .r + 1)) ≤ length (l .loop .sheet)
+    l .loop .at + length (recordText t (l .loop .line)) + length (textFrom t (l .loop .line + 1)) ≤ length (l .loop .sheet)
 fits c =
     let l = c .before in
     let t = l .before .before .before .args .table .now in
-    omega (arith, l .before .before .before .pre .1, length-next t (l .loop .r) (reached c))
+    omega (arith, l .before .before .before .pre .1, length-next t (l .loop .line) (reached c))
 
 -- the line that is written
-line : (c : tie.After-members Inv-loop μ-loop) →
+its-line : (c : tie.After-members Inv-loop μ-loop) →
     let l = c .before .before .before .before in
-    lineText (c .before .before .level .result) (c .before .threshold .result) (c .members .result) ≡ recordText (l .before .before .before .args .table .now) (l .loop .r)
-line c = rw (c .before .before .level .ensures .0, c .before .threshold .ensures .0, c .members .ensures .0)
+    lineText (c .before .before .level .result) (c .before .threshold .result) (c .members .result) ≡ recordText (l .before .before .before .args .table .now) (l .loop .line)
+its-line c = rw (c .before .before .level .ensures .0, c .before .threshold .ensures .0, c .members .ensures .0)
 
 written : (c : tie.After-put-line Inv-loop μ-loop) →
     let l = c .before .before .before .before .before .before in
-    Written (recordText (l .before .before .before .args .table .now) (l .loop .r)) (take (length (l .loop .sheet) - l .loop .at) (drop (l .loop .at) (l .loop .sheet)))
+    Written (recordText (l .before .before .before .args .table .now) (l .loop .line)) (take (length (l .loop .sheet) - l .loop .at) (drop (l .loop .at) (l .loop .sheet)))
     (c .put-line .last .0) (c .put-line .result)
-written c = rw (← line (c .before .before)) (c .put-line .ensures)
+written c = rw (← its-line (c .before .before)) (c .put-line .ensures)
 
 loop-holds : tie.Need-loop-holds Inv-loop μ-loop
 loop-holds c = (omega arith, refl, zero-add (length (sheetText (c .before .before .args .table .now))), refl)
@@ -83,13 +83,13 @@ put-line-requires : tie.Need-put-line-requires Inv-loop μ-loop
 put-line-requires c κs =
     let l = c .before .before .before .before .before in
     let f = fits (c .before .before .before .before) in
-    rw (line (c .before), rest (l .loop .sheet) (l .loop .at)) (omega (arith, length-drop (l .loop .at) (l .loop .sheet)))
+    rw (its-line (c .before), rest (l .loop .sheet) (l .loop .at)) (omega (arith, length-drop (l .loop .at) (l .loop .sheet)))
 
 add-at : tie.Need-add-at Inv-loop μ-loop
 add-at c = let f = fits (c .before .before .before .before .before .before .before) in omega (arith, written (c .before .before) .count)
 
-add-r : tie.Need-add-r Inv-loop μ-loop
-add-r c = let i = inside (c .before .before .before .before .before .before .before) in omega arith
+add-line : tie.Need-add-line Inv-loop μ-loop
+add-line c = let i = inside (c .before .before .before .before .before .before .before) in omega arith
 
 loop-less : tie.Need-loop-less Inv-loop μ-loop
 loop-less c = let i = inside (c .before .before .before .before .before .before .before) in omega arith
@@ -100,7 +100,7 @@ loop-again c =
     let i = p .before .before .before .before .before in
     let l = i .before in
     let t = l .before .before .before .args .table .now in
-    let r = l .loop .r in
+    let r = l .loop .line in
     let n = inside i in
     let w = written p in
     let f = fits i in
@@ -119,7 +119,7 @@ unfolding records
 returns c =
     let l = c .before in
     let t = l .before .before .before .args .table .now in
-    let n = no-line t (l .loop .r) (past-end t (l .before .before .before .pre .0) (l .loop .r) (omega arith)) in
+    let n = no-line t (l .loop .line) (past-end t (l .before .before .before .pre .0) (l .loop .line) (omega arith)) in
     sym (nothing-left (l .loop .at) (l .loop .sheet)) ∙ ap (λ (x : List ℕ). atPlace (l .loop .at) x (l .loop .sheet)) (sym n) ∙ l .loop .inv .3
 
 pub put-lines-spec : {M : Type 1} → statement M
@@ -137,7 +137,7 @@ put-lines-spec =
     part-put-line-end
     put-line-requires
     add-at
-    add-r
+    add-line
     loop-less
     loop-again
     same-length
