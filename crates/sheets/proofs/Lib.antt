@@ -6,3 +6,4 @@ pub mod Numbers
 pub mod Trips
 pub mod Bounds
 pub mod Exact
+pub mod Examples
