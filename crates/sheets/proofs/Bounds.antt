@@ -13,7 +13,7 @@ use Rattle.lines.specs.declared.Line.{Line}
 use Rattle.lines.specs.declared.Line.the-variants.{Good, Bad}
 use Rattle.lines.proofs.Round.{written-read, read-written, read-used, read-split}
 use Rattle.lines.proofs.Texts.{length-most}
-use Rattle.sheets.specs.Sheets.{Taken, words, stops, before, takeLines, sheetLines, readReply, readPuts}
+use Rattle.sheets.specs.Sheets.{words, before, takeLines, sheetLines, readReply, readPuts}
 use Rattle.sheets.proofs.Taking.{no-more, one-too-many, bad-line, good-line, line-some}
 use Rattle.sheets.proofs.Round.{NextRead, next-read, never}
 use Rattle.sheets.proofs.Numbers.{answered}

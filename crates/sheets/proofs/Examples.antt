@@ -5,7 +5,7 @@ use mathlib.Core.List.{List, [], _∷_, _++_}
 use Rattle.decimal.specs.Decimal.{digits, numeral, digitOf, digitAt, numberOf, readNumber}
 use Rattle.members.specs.Members.{nodesFrom, withCommas, memberText, readId, join, readIds, readMembers}
 use Rattle.lines.specs.Lines.{fieldText, lastText, lineText, readField, readLast, readLine}
-use Rattle.meanings.specs.Replies.{Reply, reply, _is_, Place, Count}
+use Rattle.meanings.specs.Replies.{reply, _is_, Place, Count}
 use Rattle.meanings.specs.Rows.{computing}
 use Rattle.sheets.specs.Sheets.{takeLines, sheetLines, sheetText, readReply, readPuts, writeReply}
 

@@ -1,6 +1,6 @@
 -- An answer is handed on as it is: a refusal has a number above 0 and leaves the buffer untouched, and where the room is enough what is
 -- written stands at the front.
-use Prim.Native.Nat.{ℕ, suc, _≤_, _<_}
+use Prim.Native.Nat.{ℕ, _≤_, _<_}
 use native.Mathlib.Omega.{arith}
 use mathlib.Core.Path.{_≡_, refl, ap, sym, _∙_}
 use mathlib.Core.List.{List, [], _∷_}
@@ -11,58 +11,53 @@ use borrow.Author.Tests.{lt-ltb, le-ltb, ne-eqb}
 use lib.ListN.{length, take, length-take}
 use Rattle.decimal.specs.Bytes.{atFront}
 use Rattle.meanings.specs.Table.{nodes, records}
-use Rattle.meanings.specs.Faults.{Check, sound, fault, check, orElse}
+use Rattle.meanings.specs.Faults.{Check, sound, fault, check}
 use Rattle.meanings.specs.Replies.{Reply, Named, reply, _is_, rank, Place, Count, leaves}
 use Rattle.meanings.specs.Questions.{onCheck, checkReply}
 use Rattle.answers.specs.declared.Fault.{Fault}
-use Rattle.answers.specs.declared.Fault.the-variants as Fx
 use Rattle.answers.specs.declared.Checked.{Checked}
 use Rattle.answers.specs.declared.Checked.the-variants as Cx
 use Rattle.answers.specs.declared.Read.{Read}
 use Rattle.answers.specs.declared.Read.the-variants as Rx
 use Rattle.answers.specs.Said.{faultSays, checkedSays, readSays}
+use Rattle.faults.specs.Walk.{counted}
 use Rattle.faults.proofs.Laws.{counted-back, handed-on}
 use Rattle.sheets.specs.Sheets.{Taken, words, stops, onTaken, sheetLines, roomReply, readReply, readPuts}
-use Rattle.sheets.specs.Promises.{Filled, ReadPromise, Takes}
+use Rattle.sheets.specs.Promises.{Filled, ReadPromise, Put, Takes}
+use Rattle.sheets.proofs.Numbers.{check-above, sheet-above}
 
 module _ (own before : List ℕ) where
-  pub refused : (answer said : Reply) → said ≡ answer → 0 < said .number → Filled answer own before before said
+  pub refused : (answer said : Reply) → said ≡ answer → 0 < answer .number → Filled answer own before before said
   refused answer said e h =
-      let n : answer .number ≡ 0 → ⊥ = λ z. omega (arith, ap (λ (x : Reply). x .number) e) in
+      let n : answer .number ≡ 0 → ⊥ = λ z. omega arith in
       record { says = e; holds = rw (ne-eqb (answer .number) 0 n, leaves) refl }
 
-  pub too-short : length before < length own → Filled (roomReply own (length before)) own before before (reply 10 (Count is length own ∷ []))
+  pub too-short : length before < length own → Put own before before (reply 10 (Count is length own ∷ []))
   too-short h = rw (lt-ltb (length before) (length own) h) (record { says = refl; holds = refl })
 
   pub put : (after : List ℕ) → length own ≤ length before → after ≡ atFront own before
-      → Filled (roomReply own (length before)) own before after (reply 0 (Count is length own ∷ []))
+      → Put own before after (reply 0 (Count is length own ∷ []))
   put after h e = rw (le-ltb (length before) (length own) h) (record { says = refl; holds = e })
 
 -- ---- what checking has found
-fault-number : (f : Fault) → 0 < faultSays f .number
-fault-number (Fx.Count p) = omega arith
-fault-number (Fx.Control p) = omega arith
-fault-number (Fx.Level p) = omega arith
-fault-number (Fx.Nodes p) = omega arith
-fault-number (Fx.Threshold p) = omega arith
-fault-number (Fx.Member p) = omega arith
-fault-number (Fx.Entries p) = omega arith
+module _ (t : List ℕ) where
+  by-check : (f : Fault) (c : Check) → check t ≡ c → faultSays f ≡ onCheck c (counted (nodes t) (records t)) → (own before : List ℕ) (x : Reply)
+      → Filled (onCheck c x) own before before (faultSays f)
+  by-check f sound h e own before x =
+      let a = handed-on f sound sound (nodes t) (records t) (reply 1 []) e in
+      let z : _≡_ {A = ℕ} 0 1 = ap (λ (y : Reply). y .number) (sym e ∙ a) in
+      absurd (omega arith)
+  by-check f (fault k p) h e own before x = refused own before (reply k (Place is p ∷ [])) (faultSays f) e (check-above t k p h)
 
-or-sound : (c : Check) → orElse c sound ≡ c
-or-sound sound = refl
-or-sound (fault k p) = refl
+  module _ (o : Checked) (e : checkedSays o ≡ checkReply t) where
+    pub checked-sound : (n k : ℕ) → o ≡ Cx.Sound n k → check t ≡ sound
+    unfolding checkReply
+    checked-sound n k h = counted-back (check t) n k (nodes t) (records t) (sym (ap checkedSays h) ∙ e) .0
 
-module _ (t : List ℕ) (o : Checked) (e : checkedSays o ≡ checkReply t) where
-  pub checked-sound : (n k : ℕ) → o ≡ Cx.Sound n k → check t ≡ sound
-  unfolding checkReply
-  checked-sound n k h = counted-back (check t) n k (nodes t) (records t) (sym (ap checkedSays h) ∙ e) .0
-
-  -- a fault is the answer, whatever would have been answered without it
-  pub checked-bad : (f : Fault) → o ≡ Cx.Bad f → (own before : List ℕ) (x : Reply) → Filled (onCheck (check t) x) own before before (faultSays f)
-  unfolding checkReply
-  checked-bad f h own before x =
-      let g = handed-on f (check t) sound (nodes t) (records t) x (sym (ap checkedSays h) ∙ e) in
-      refused own before (onCheck (check t) x) (faultSays f) (g ∙ ap (λ (c : Check). onCheck c x) (or-sound (check t))) (fault-number f)
+    -- a fault is the answer, whatever would have been answered without it
+    pub checked-bad : (f : Fault) → o ≡ Cx.Bad f → (own before : List ℕ) (x : Reply) → Filled (onCheck (check t) x) own before before (faultSays f)
+    unfolding checkReply
+    checked-bad f h own before x = by-check f (check t) refl (sym (ap checkedSays h) ∙ e) own before x
 
 -- ---- what taking the lines has found
 abbrev firstRank : List Named → ℕ
@@ -78,29 +73,21 @@ taken-words (words w) o r k e h =
     let n : k ≡ length w = cc in
     (ap words (sym (rw n (e .1))), omega (arith, ap length (e .1), length-take (length w) o))
 
--- an answer that counts no words is a refusal
-pub not-counted : (r : Read) → OneOf (1 ∷ 2 ∷ 3 ∷ []) (tagOf Rattle.answers.proofs.Read.the-type r) → 0 < readSays r .number
-not-counted (Rx.Words k) h = absurd (⊎-elim (λ e. never e) (⊎-elim (λ e. never e) (λ e. never e)) h)
-  where
-    never : {k : ℕ} → 0 ≡ suc k → ⊥
-    never e = omega arith
-not-counted (Rx.Short n) h = omega arith
-not-counted (Rx.Malformed l) h = omega arith
-not-counted (Rx.Bad f) h = fault-number f
-
-taken-stops : (x : Taken) (o : List ℕ) (r : Read) → Takes x o r → 0 < readSays r .number → (g : List ℕ → Reply)
-    → readSays r ≡ onTaken x (λ k p. reply k (Place is p ∷ [])) g
-taken-stops (stops k p) o r e h g = e
-taken-stops (words w) o r e h g =
-    let z : readSays r .number ≡ 0 = ap (λ (y : Read). readSays y .number) (e .0) in
-    absurd (omega arith)
+-- an answer of another case counts no words
+pub not-counted : (r : Read) → OneOf (1 ∷ 2 ∷ 3 ∷ []) (tagOf Rattle.answers.proofs.Read.the-type r) → (k : ℕ) → r ≡ Rx.Words k → ⊥
+not-counted r h k e =
+    let z : tagOf Rattle.answers.proofs.Read.the-type r ≡ 0 = ap (tagOf Rattle.answers.proofs.Read.the-type) e in
+    ⊎-elim (λ a. omega arith) (⊎-elim (λ a. omega arith) (λ a. omega arith)) h
 
 module _ (s before : List ℕ) where
-  pub read-stops : (o : List ℕ) (r : Read) → Takes (sheetLines s) o r → 0 < readSays r .number → ReadPromise s before before r
+  by-lines : (o own : List ℕ) (r : Read) (g : List ℕ → Reply) → ((k : ℕ) → r ≡ Rx.Words k → ⊥) → (x : Taken) → sheetLines s ≡ x → Takes x o r
+      → Filled (onTaken x (λ k p. reply k (Place is p ∷ [])) g) own before before (readSays r)
+  by-lines o own r g n (stops k p) e t = refused own before (reply k (Place is p ∷ [])) (readSays r) t (sheet-above s k p e)
+  by-lines o own r g n (words w) e t = absurd (n (length w) (t .0))
+
+  pub read-stops : (o : List ℕ) (r : Read) → Takes (sheetLines s) o r → ((k : ℕ) → r ≡ Rx.Words k → ⊥) → ReadPromise s before before r
   unfolding readReply
-  read-stops o r e h =
-      refused (readPuts s) before (readReply s (length before)) (readSays r)
-      (taken-stops (sheetLines s) o r e h (λ w. onCheck (check w) (roomReply w (length before)))) h
+  read-stops o r e n = by-lines o (readPuts s) r (λ w. onCheck (check w) (roomReply w (length before))) n (sheetLines s) refl e
 
   pub read-goes : (w : List ℕ) → sheetLines s ≡ words w → (after : List ℕ) (said : Reply)
       → Filled (onCheck (check w) (roomReply w (length before))) w before after said → Filled (readReply s (length before)) (readPuts s) before after said

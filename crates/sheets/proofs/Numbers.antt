@@ -1,8 +1,8 @@
 -- Every fault has a number above 0, so the number 0 is given only where the lines are good, the records sound and the room enough.
 use Prim.Native.Nat.{ℕ, zero, suc, _+_, _*_, _≤_, _<_}
 use native.Mathlib.Omega.{arith}
-use mathlib.Core.Path.{_≡_, refl, ap, sym, _∙_}
-use mathlib.Core.Bool.{Bool, true, false, cond}
+use mathlib.Core.Path.{_≡_, refl}
+use mathlib.Core.Bool.{Bool, true, false}
 use mathlib.Core.Logic.{⊎-elim}
 use mathlib.Core.List.{List, [], _∷_, _++_}
 use borrow.Author.Tests.{lt-ltb}
@@ -11,12 +11,12 @@ use Rattle.decimal.proofs.Order.{lt-or-le}
 use Rattle.sets.specs.Lists.{from}
 use Rattle.meanings.specs.Table.{records}
 use Rattle.meanings.specs.Faults.{Check, sound, fault, orElse, faultIf, firstFault, badCount, badControl, badLevel, surplus, noThreshold, strangers, tooHigh, shapeFault, entryFault, check}
-use Rattle.meanings.specs.Replies.{Reply, reply, _is_, Place}
+use Rattle.meanings.specs.Replies.{reply, _is_, Place}
 use Rattle.meanings.specs.Questions.{onCheck}
 use Rattle.lines.specs.Lines.{readLine}
 use Rattle.lines.specs.declared.Line.{Line}
 use Rattle.lines.specs.declared.Line.the-variants.{Good, Bad}
-use Rattle.sheets.specs.Sheets.{Taken, words, stops, onTaken, before, takeLines, sheetLines, sheetText, roomReply, readReply, readPuts, writeReply}
+use Rattle.sheets.specs.Sheets.{Taken, words, stops, onTaken, before, takeLines, sheetLines, roomReply, readReply, readPuts}
 use Rattle.sheets.proofs.Taking.{no-more, one-too-many, bad-line, good-line}
 
 -- ---- the numbers of a table's faults

@@ -1,22 +1,20 @@
 -- A sheet whose lines are all good is the text of its records, line by line; and the lines of the text of a sound table are its records.
-use Prim.Native.Nat.{ℕ, zero, suc, _+_, _-_, _*_, _/_, _%_, _^_, _≤_, _<_}
+use Prim.Native.Nat.{ℕ, zero, suc, _+_, _*_, _/_, _%_, _≤_, _<_}
 use native.Mathlib.Omega.{arith}
-use native.Mathlib.Numerals.{add-one}
-use mathlib.Core.Path.{_≡_, refl, ap, ap₂, sym, _∙_}
+use mathlib.Core.Path.{_≡_, refl, ap, sym, _∙_}
 use mathlib.Core.Logic.{⊎-elim}
 use mathlib.Core.List.{List, [], _∷_, _++_}
 use lib.Pow.{pow-mono}
-use lib.ListN.{length, drop, length-drop, drop-of-length-le}
+use lib.ListN.{length, drop, drop-of-length-le}
 use lib.Seq.{drop-cons, drop-append-seam}
 use Rattle.decimal.proofs.Order.{lt-or-le}
 use Rattle.meanings.specs.Table.{control, level, threshold, members, records, nodes}
 use Rattle.meanings.specs.Faults.{check, sound}
-use Rattle.tables.proofs.Sound.{SoundTable, SoundRecord, sound-table, record-in}
-use Rattle.lines.specs.Lines.{lineText, readLine}
+use Rattle.tables.proofs.Sound.{sound-table, record-in}
+use Rattle.lines.specs.Lines.{readLine}
 use Rattle.lines.specs.declared.Line.{Line}
 use Rattle.lines.specs.declared.Line.the-variants.{Good, Bad}
 use Rattle.lines.proofs.Round.{written-read as line-written, read-written as line-read, read-split}
-use Rattle.lines.proofs.Texts.{length-most}
 use Rattle.sheets.specs.Sheets.{Taken, words, stops, before, takeLines, sheetLines, sheetText}
 use Rattle.sheets.proofs.Taking.{no-more, one-too-many, bad-line, good-line}
 use Rattle.sheets.proofs.Writing.{textFrom, recordText, next-line, no-line, past-end}

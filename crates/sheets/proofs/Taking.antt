@@ -8,7 +8,7 @@ use mathlib.Core.List.{List, [], _∷_, _++_, append-assoc, append-nil}
 use borrow.Author.Tests.{eq-eqb, ne-eqb}
 use lib.ListN.{length, take, drop, set, length-drop, length-set}
 use lib.Seq.{drop-drop, take-suc-set, length-take-le}
-use Rattle.lines.specs.Lines.{lineText, readLine}
+use Rattle.lines.specs.Lines.{readLine}
 use Rattle.lines.specs.declared.Line.the-variants.{Good, Bad}
 use Rattle.lines.proofs.Round.{written-read, read-used}
 use Rattle.lines.proofs.Texts.{length-some}

@@ -17,7 +17,7 @@ use Rattle.answers.specs.declared.Wrote.{Wrote}
 use Rattle.answers.specs.declared.Wrote.the-variants.{Bytes}
 use Rattle.answers.proofs.Exact.{read-exact, wrote-exact}
 use Rattle.sheets.specs.Promises.{Filled, ReadPromise, WritePromise}
-use Rattle.sheets.specs.Sheets.{words, takeLines, sheetLines, sheetText, roomReply, readReply, readPuts, writeReply}
+use Rattle.sheets.specs.Sheets.{words, sheetLines, sheetText, roomReply, readReply, readPuts, writeReply}
 use Rattle.sheets.proofs.Round.{lines-text, text-lines}
 use Rattle.sheets.proofs.Numbers.{Answered, answered, check-zero}
 

@@ -1,18 +1,17 @@
 -- The text of a table from a record on is that record's line and the text from the next record on; a line is written into what is left
 -- of the buffer, so what is written in the end is the whole text.
-use Prim.Native.Nat.{ℕ, suc, _+_, _-_, _*_, _%_, _≤_, _<_}
+use Prim.Native.Nat.{ℕ, suc, _+_, _-_, _*_, _≤_, _<_}
 use native.Mathlib.Omega.{arith}
-use native.Mathlib.Nat.{zero-add}
-use mathlib.Core.Path.{_≡_, refl, ap, sym, _∙_}
+use mathlib.Core.Path.{_≡_, ap, _∙_}
 use mathlib.Core.List.{List, [], _∷_, _++_}
 use borrow.Rule.Slice.PartMut.{putMid}
 use lib.ListN.{length, take, drop, length-append, drop-of-length-le, take-append-drop}
 use lib.Seq.{drop-cons}
-use Rattle.decimal.specs.Bytes.{atFront, Written}
+use Rattle.decimal.specs.Bytes.{Written}
 use Rattle.decimal.proofs.Place.{atPlace, lent, place-place, length-place}
 use Rattle.meanings.specs.Table.{control, level, threshold, members, records}
 use Rattle.meanings.specs.Faults.{check, sound}
-use Rattle.tables.proofs.Sound.{SoundTable, SoundRecord, sound-table}
+use Rattle.tables.proofs.Sound.{sound-table}
 use Rattle.lines.specs.Lines.{lineText}
 use Rattle.lines.proofs.Texts.{length-most}
 use Rattle.sheets.specs.Sheets.{sheetText}

@@ -8,7 +8,7 @@ use Rattle.answers.specs.Said.{readSays, wroteSays}
 use Rattle.answers.specs.declared.Read.{Read}
 use Rattle.answers.specs.declared.Read.the-variants.{Words}
 use Rattle.answers.specs.declared.Wrote.{Wrote}
-use Rattle.sheets.specs.Sheets.{Taken, words, stops, sheetText, readReply, readPuts, writeReply}
+use Rattle.sheets.specs.Sheets.{Taken, words, stops, sheetText, roomReply, readReply, readPuts, writeReply}
 
 -- A lent buffer held `before` and then holds `after`. The answer says what it is to say, and what is its own stands at the front of the
 -- buffer if its number is 0; otherwise the buffer is untouched.
@@ -23,6 +23,10 @@ ReadPromise sheet before after r = Filled (readReply sheet (length before)) (rea
 -- a table is written as a sheet into a lent buffer
 abbrev pub WritePromise : (table before after : List ℕ) → Wrote → Type 0
 WritePromise table before after r = Filled (writeReply table (length before)) (sheetText table) before after (wroteSays r)
+
+-- what is to be put is put where there is room
+abbrev pub Put : (own before after : List ℕ) → Reply → Type 0
+Put own before after said = Filled (roomReply own (length before)) own before after said
 
 -- taking the lines of a sheet tells the first fault, or counts the words, which then stand at the front
 abbrev pub Takes : Taken → (after : List ℕ) → Read → Type 0

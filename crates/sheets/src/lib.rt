@@ -7,8 +7,8 @@ ghost use lib.ListN.{length};
 ghost use Rattle.decimal.specs.Bytes.{atFront};
 ghost use Rattle.meanings.specs.Faults.{check, sound};
 ghost use Rattle.answers.specs.Said.{readSays, wroteSays};
-ghost use Rattle.sheets.specs.Sheets.{sheetText, sheetLines, roomReply};
-ghost use Rattle.sheets.specs.Promises.{ReadPromise, WritePromise, Filled, Takes};
+ghost use Rattle.sheets.specs.Sheets.{sheetText, sheetLines};
+ghost use Rattle.sheets.specs.Promises.{ReadPromise, WritePromise, Put, Takes};
 use answers::Checked;
 use answers::Fault;
 use answers::Read;
@@ -60,7 +60,7 @@ fn put_words(words: &[u64], table: &mut [u64])
 
 // The words into the table, if it has room for them.
 fn fill_table(words: &[u64], table: &mut [u64]) -> Read
-    ensures { λ r. ⌜ Filled (roomReply (now (words .entry)) (length (now (table .entry)))) (now (words .entry)) (now (table .entry)) (now (table .exit)) (readSays r) ⌝ }
+    ensures { λ r. ⌜ Put (now (words .entry)) (now (table .entry)) (now (table .exit)) (readSays r) ⌝ }
 {
     let count = words.len() as u64;
     if table.len() < words.len() {
@@ -123,7 +123,7 @@ fn put_lines(table: &[u64], sheet: &mut [u8])
 // The text of a sound table into the sheet, if it has room for it.
 fn fill_sheet(table: &[u64], sheet: &mut [u8]) -> Wrote
     requires { ⌜ check (now table) ≡ sound ⌝ }
-    ensures { λ r. ⌜ Filled (roomReply (sheetText (now (table .entry))) (length (now (sheet .entry)))) (sheetText (now (table .entry))) (now (sheet .entry)) (now (sheet .exit)) (wroteSays r) ⌝ }
+    ensures { λ r. ⌜ Put (sheetText (now (table .entry))) (now (sheet .entry)) (now (sheet .exit)) (wroteSays r) ⌝ }
 {
     let need = sheet_len(table);
     let count = need as u64;

@@ -14,7 +14,7 @@ use Rattle.meanings.specs.Table.{records, level, threshold, members}
 use Rattle.lines.specs.Lines.{lineText}
 use Rattle.tables.proofs.Sound.{record-in}
 use Rattle.sheets.specs.Sheets.{sheetText}
-use Rattle.sheets.proofs.Writing.{recordText, textFrom, next-line, length-next, no-line, few-records, past-end, same-room, goes-on, nothing-left}
+use Rattle.sheets.proofs.Writing.{recordText, textFrom, next-line, length-next, no-line, past-end, same-room, goes-on, nothing-left}
 use Rattle.sheets.proofs.put_lines.Statement.{statement}
 use Rattle.sheets.proofs.put_lines.Tie as tie
 

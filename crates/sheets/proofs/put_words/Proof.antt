@@ -1,5 +1,4 @@
 -- After i words the table is its first i of them and the rest as before.
-use borrow.Author.Needs.{needs}
 use native.Mathlib.Omega.{arith}
 use native.Mathlib.Numerals.{add-one}
 use native.Mathlib.Nat.{zero-add}

@@ -1,6 +1,5 @@
 -- What stops the lines is handed on, and so is a fault of their records; the words of a sound table are put.
 use borrow.Author.Needs.{needs}
-use native.Mathlib.Omega.{arith}
 use Prim.Native.Nat.{_≤_}
 use mathlib.Core.Path.{_≡_, sym}
 use lib.ListN.{length, take}

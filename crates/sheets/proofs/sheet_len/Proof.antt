@@ -3,10 +3,9 @@ use borrow.Author.Needs.{needs}
 use native.Mathlib.Omega.{arith}
 use native.Mathlib.Nat.{zero-add}
 use Prim.Native.Nat.{_+_, _-_, _*_, _≤_, _<_}
-use mathlib.Core.Path.{_≡_, refl, sym, ap, _∙_}
+use mathlib.Core.Path.{_≡_, ap}
 use lib.ListN.{length}
 use Rattle.meanings.specs.Table.{records, level, threshold, members}
-use Rattle.lines.specs.Lines.{lineText}
 use Rattle.tables.proofs.Sound.{record-in}
 use Rattle.sheets.specs.Sheets.{sheetText}
 use Rattle.sheets.proofs.Writing.{recordText, textFrom, length-next, no-line, few-records, past-end, short-line}
