@@ -1,12 +1,11 @@
 -- The table's faults first, then 8, each handed on whatever the answer would be; then the search's answer, with what it means.
 use mathlib.Core.Path.{_≡_, _∙_, ap}
-use Rattle.sets.specs.Sets.{within, everyone}
 use Rattle.meanings.specs.Table.{nodes, satisfied}
 use Rattle.meanings.specs.Trees.{verdictTree, walk}
 use Rattle.meanings.specs.Questions.{verdictReply, verdictSays as replySays}
 use Rattle.answers.specs.Said.{verdictSays}
 use Rattle.faults.proofs.Known.{fault-known}
-use Rattle.quorums.proofs.Opening.{Passed, past-check, found-inside, found-outside, inside, outside}
+use Rattle.quorums.proofs.Opening.{Passed, past-check, set-outside, set-answered}
 use Rattle.verdict.proofs.Meaning.{says-within, kept-bad, kept-outside, kept-search}
 use borrow.Author.Needs.{needs}
 use Rattle.verdict.proofs.intersect.Statement.{statement}
@@ -58,8 +57,7 @@ returns-2 c =
     let n = K .before .checked .given .0 .0 in
     let d = s .args .out in
     kept-outside t d (s .args .allowance)
-    (outside t n (passed K) (within d (everyone (nodes t))) (found-outside t n (passed K) d (I .inside .result) (I .inside .ensures) (c .if1 .taken))
-    (replySays (s .args .allowance) (walk (verdictTree (nodes t) (satisfied t) d))))
+    (set-outside t n (passed K) d (I .inside .result) (I .inside .ensures) (c .if1 .taken) (replySays (s .args .allowance) (walk (verdictTree (nodes t) (satisfied t) d))))
 
 decide-requires : tie.Need-decide-requires
 decide-requires c κs =
@@ -79,7 +77,7 @@ returns-3 c =
     let w = walk (verdictTree (nodes t) (satisfied t) d) in
     kept-search t d (s .args .allowance) (c .decide .result) (c .decide .ensures)
     (ap verdictSays (c .decide .ensures) ∙ says-within (s .args .allowance) w
-    ∙ inside t n (passed K) (within d (everyone (nodes t))) (found-inside t n (passed K) d (I .inside .result) (I .inside .ensures) (E .if1 .left)) (replySays (s .args .allowance) w))
+    ∙ set-answered t n (passed K) d (I .inside .result) (I .inside .ensures) (E .if1 .left) (replySays (s .args .allowance) w))
 
 pub intersect-spec : {M : Type 1} → statement M
 intersect-spec =
