@@ -1,0 +1,243 @@
+-- The visit, then the walk of the first part, then, where that is answered, the walk of the second, which goes on where it stopped.
+use native.Mathlib.Omega.{arith}
+use mathlib.Core.Path.{_≡_, refl, sym, ap, _∙_, subst}
+use lib.ListN.{length, length-set}
+use Rattle.sets.specs.Sets.{nobody, only, _∪_, size}
+use Rattle.meanings.specs.Table.{nodes, satisfied}
+use Rattle.meanings.specs.Trees.{Tree}
+use Rattle.tables.proofs.Sound.{sound-table}
+use Rattle.visits.specs.declared.Step.{Step}
+use Rattle.visits.specs.Visits.{treeAt, Comes, Splits}
+use Rattle.lists.proofs.Laws.{walk-spent, walk-leaf, walk-found, walk-unsplit, walk-first, walk-second, still-fewer, low-lt, Below, below, refused}
+use borrow.Author.Needs.{needs}
+use Prim.Native.Nat.{ℕ, _<_, _≤_, _+_, _^_}
+use borrow.Fn.Kinds.{In}
+use borrow.Fn.PlainCycle.{Measures, is, falls, and}
+use Rattle.lists.proofs.walk.Reads as walk
+use Rattle.lists.proofs.walk.Kinds as walk-kinds
+use Rattle.lists.proofs.+walk.Lts-walk as walk-lts
+use Rattle.lists.proofs.put.Reads as put-reads
+use Rattle.sets.proofs.first.Reads as first-reads
+use Rattle.sets.proofs.one.Reads as one-reads
+use Rattle.sets.proofs.without.Reads as without-reads
+use Rattle.visits.proofs.look.Reads as look-reads
+use Rattle.lists.proofs.+walk.{statement}
+use Rattle.lists.proofs.+walk.Tie.{close}
+
+-- the open nodes fall
+abbrev μ-walk : Measures 3 walk-kinds.ps ℕ
+μ-walk κs a = size 64 (a .1 .1 .1 .1 .1 .1 .0)
+
+abbrev walk-at : ℕ → In 3 walk-kinds.ps
+walk-at t = and 3 walk-kinds.ps (is 3 walk-kinds.ps μ-walk t) walk.Pre
+
+abbrev walk-below : ℕ → In 3 walk-kinds.ps
+walk-below t = and 3 walk-kinds.ps (falls 3 walk-kinds.ps _<_ μ-walk t) walk.Pre
+
+abbrev claims : ℕ → walk-lts.Claims
+claims t = (
+  look-reads.Asked,
+  look-reads.Learnt,
+  put-reads.Asked,
+  put-reads.Learnt,
+  first-reads.Asked,
+  first-reads.Learnt,
+  one-reads.Asked,
+  one-reads.Learnt,
+  without-reads.Asked,
+  without-reads.Learnt,
+  walk-below t,
+  walk.Post,
+)
+
+-- the table has at most 64 nodes
+small : (t : ℕ) (c : walk-lts.Start (claims t) (walk-at t) walk.Post) → nodes (c .args .t .now) ≤ 64
+small t c = sound-table (c .args .t .now) (c .pre .1 .visited .known .grouped .checked) .nodes-le
+
+abbrev tree-at : (t : ℕ) → walk-lts.Start (claims t) (walk-at t) walk.Post → Tree ℕ
+tree-at t s = treeAt (nodes (s .args .t .now)) (satisfied (s .args .t .now)) (s .args .sought) (s .args .c) (s .args .r)
+
+-- what looking has found
+abbrev comes : (t : ℕ) → walk-lts.After-look (claims t) (walk-at t) walk.Post → Step → Type 0
+comes t g =
+    let s = g .before .before .before .before .before in
+    Comes (nodes (s .args .t .now)) (satisfied (s .args .t .now)) (s .args .sought) (s .args .c) (s .args .r)
+
+splits : (t : ℕ) (c : walk-lts.After-met (claims t) (walk-at t) walk.Post) →
+    let s = c .before .before .before .before .before .before .before in
+    Splits (nodes (s .args .t .now)) (satisfied (s .args .t .now)) (s .args .sought) (s .args .c) (s .args .r) (c .met .given .0 .0) (c .met .given .0 .1 .0)
+splits t c = subst (comes t (c .before .before)) (c .met .given .1) (c .before .before .look .ensures)
+
+-- the two visits below a split
+abbrev below-without : (t : ℕ) → walk-lts.After-without (claims t) (walk-at t) walk.Post → Tree ℕ
+below-without t w =
+    let s = w .before .before .before .before .before .before .before .before .before .before .before .before in
+    treeAt (nodes (s .args .t .now)) (satisfied (s .args .t .now)) (s .args .sought) (s .args .c) (w .without .result)
+
+abbrev below-with : (t : ℕ) → walk-lts.After-without (claims t) (walk-at t) walk.Post → Tree ℕ
+below-with t w =
+    let s = w .before .before .before .before .before .before .before .before .before .before .before .before in
+    treeAt (nodes (s .args .t .now)) (satisfied (s .args .t .now)) (s .args .sought) (s .args .c ∪ w .before .one .result) (w .without .result)
+
+parted : (t : ℕ) (w : walk-lts.After-without (claims t) (walk-at t) walk.Post) →
+    let s = w .before .before .before .before .before .before .before .before .before .before .before .before in
+    Below (nodes (s .args .t .now)) (satisfied (s .args .t .now)) (s .args .sought) (s .args .c) (s .args .r) (w .before .one .result) (w .without .result)
+parted t w =
+    let f = w .before .before in
+    let m = f .before .before .before in
+    let s = m .before .before .before .before .before .before .before in
+    below (nodes (s .args .t .now)) (satisfied (s .args .t .now)) (s .args .sought) (s .args .c) (s .args .r) (m .met .given .0 .0) (m .met .given .0 .1 .0) (small t s) (splits t m) (f .before .if2 .left)
+    (s .pre .1 .visited .known .chosen-in) (s .pre .1 .visited .open-in) (w .before .one .result) (w .without .result)
+    (w .before .one .ensures ∙ ap (λ (x : ℕ). only x) (f .first .ensures .0)) (w .without .ensures)
+
+walk-returns : (t : ℕ) → walk-lts.Need-returns (claims t) (walk-at t) walk.Post
+walk-returns t c =
+    let s = c .before .before .before .before in
+    walk-spent (tree-at t s) (s .args .allowance) (s .args .spent) (s .args .found) (s .args .out .now) (c .if1 .taken)
+
+walk-add-next : (t : ℕ) → walk-lts.Need-add-next (claims t) (walk-at t) walk.Post
+walk-add-next t c = omega arith
+
+walk-look-requires : (t : ℕ) → walk-lts.Need-look-requires (claims t) (walk-at t) walk.Post
+walk-look-requires t c κs = c .before .before .before .before .pre .1 .visited
+
+walk-enum-told : (t : ℕ) → walk-lts.Need-enum-told (claims t) (walk-at t) walk.Post
+walk-enum-told t c = search needs
+
+walk-enum-told-2 : (t : ℕ) → walk-lts.Need-enum-told-2 (claims t) (walk-at t) walk.Post
+walk-enum-told-2 t c = search needs
+
+walk-put-requires : (t : ℕ) → walk-lts.Need-put-requires (claims t) (walk-at t) walk.Post
+walk-put-requires t c κs = search needs
+
+walk-add-t26 : (t : ℕ) → walk-lts.Need-add-t26 (claims t) (walk-at t) walk.Post
+walk-add-t26 t c =
+    let e = c .before .before .before .before .before .before .before in
+    let s = e .before .before .before .before in
+    let f = s .pre .1 .fewer-found in
+    let h = e .if1 .left in
+    omega arith
+
+walk-enum-known-met : (t : ℕ) → walk-lts.Need-enum-known-met (claims t) (walk-at t) walk.Post
+walk-enum-known-met t c = search needs
+
+walk-returns-2 : (t : ℕ) → walk-lts.Need-returns-2 (claims t) (walk-at t) walk.Post
+walk-returns-2 t c =
+    let m = c .before .before in
+    let e = m .before .before .before in
+    let s = e .before .before .before .before in
+    walk-unsplit (tree-at t s) (s .args .allowance) (s .args .spent) (s .args .found) (s .args .out .now) (e .if1 .left) (splits t m .none (c .if2 .taken))
+
+walk-first-requires : (t : ℕ) → walk-lts.Need-first-requires (claims t) (walk-at t) walk.Post
+walk-first-requires t c κs = search needs
+
+walk-one-requires : (t : ℕ) → walk-lts.Need-one-requires (claims t) (walk-at t) walk.Post
+walk-one-requires t c κs =
+    let m = c .before .before .before in
+    let s = m .before .before .before .before .before .before .before in
+    subst (λ (x : ℕ). x < 64) (sym (c .first .ensures .0))
+    (low-lt (nodes (s .args .t .now)) (satisfied (s .args .t .now)) (s .args .sought) (s .args .c) (s .args .r) (m .met .given .0 .0) (m .met .given .0 .1 .0) (small t s) (splits t m) (c .before .if2 .left))
+
+walk-without-requires : (t : ℕ) → walk-lts.Need-without-requires (claims t) (walk-at t) walk.Post
+walk-without-requires t c κs = search needs
+
+walk-walk-requires : (t : ℕ) → walk-lts.Need-walk-requires (claims t) (walk-at t) walk.Post
+walk-walk-requires t c κs =
+    let w = c .before in
+    let s = w .before .before .before .before .before .before .before .before .before .before .before .before in
+    let b = parted t w in
+    let f = s .pre .1 .fewer-found in (
+      subst (λ (x : ℕ). size 64 (w .without .result) < x) (s .pre .0) (b .fewer),
+      record { visited = record { known = s .pre .1 .visited .known; open-in = b .rest-in }; fewer-found = omega arith },
+    )
+
+walk-enum-known-first : (t : ℕ) → walk-lts.Need-enum-known-first (claims t) (walk-at t) walk.Post
+walk-enum-known-first t c = search needs
+
+walk-same-length : (t : ℕ) → walk-lts.Need-same-length (claims t) (walk-at t) walk.Post
+walk-same-length t c = c .before .before .before .walk .kept .1 .1 .1 .1 .1 .1 .1 .1 .1 .1 .0
+
+walk-returns-3 : (t : ℕ) → walk-lts.Need-returns-3 (claims t) (walk-at t) walk.Post
+walk-returns-3 t c =
+    let g = c .before .before .before in
+    let w = g .before .before in
+    let s = w .before .before .before .before .before .before .before .before .before .before .before .before in
+    walk-first (tree-at t s) (s .args .allowance) (s .args .spent) (s .args .found) (s .args .out .now) (below-without t w) (below-with t w) (parted t w .parts)
+    (g .walk .last .1 .1 .1 .1 .1 .1 .1 .1 .1 .1 .0) (g .walk .result) (g .walk .ensures) (refused (g .walk .result) (c .match2 .keys2))
+
+walk-walk-requires-2 : (t : ℕ) → walk-lts.Need-walk-requires-2 (claims t) (walk-at t) walk.Post
+walk-walk-requires-2 t c κs =
+    let k = c .before .before in
+    let g = k .before .before .before .before in
+    let w = g .before .before in
+    let s = w .before .before .before .before .before .before .before .before .before .before .before .before in
+    let b = parted t w in (
+      subst (λ (x : ℕ). size 64 (w .without .result) < x) (s .pre .0) (b .fewer),
+      record {
+        visited = record { known = record { grouped = s .pre .1 .visited .known .grouped; whole = s .pre .1 .visited .known .whole; chosen-in = b .chosen-in }; open-in = b .rest-in };
+        fewer-found = still-fewer (tree-at t s) (s .args .allowance) (s .args .spent) (s .args .found) (s .args .out .now) (below-without t w) (below-with t w) (b .parts)
+            (g .walk .last .1 .1 .1 .1 .1 .1 .1 .1 .1 .1 .0) (g .walk .result) (k .first2 .given .0 .0) (k .first2 .given .0 .1 .0) (g .walk .ensures) (k .first2 .given .1) (s .pre .1 .fewer-found);
+      },
+    )
+
+walk-returns-4 : (t : ℕ) → walk-lts.Need-returns-4 (claims t) (walk-at t) walk.Post
+walk-returns-4 t c =
+    let g = c .before .before in
+    let s = g .before .before .before .before .before in
+    walk-leaf (tree-at t s) (s .args .allowance) (s .args .spent) (s .args .found) (s .args .out .now) (g .before .if1 .left) (subst (comes t g) (c .enum-told .given .1) (g .look .ensures))
+
+walk-same-length-2 : (t : ℕ) → walk-lts.Need-same-length-2 (claims t) (walk-at t) walk.Post
+walk-same-length-2 t c = c .before .before .put .kept .0
+
+walk-returns-5 : (t : ℕ) → walk-lts.Need-returns-5 (claims t) (walk-at t) walk.Post
+walk-returns-5 t c =
+    let q = c .before .before in
+    let m = q .before .before in
+    let g = m .before .before in
+    let s = g .before .before .before .before .before in
+    walk-found (tree-at t s) (s .args .allowance) (s .args .spent) (s .args .found) (s .args .out .now) (g .before .if1 .left) (s .args .c) (q .put .last .0) (subst (comes t g) (m .enum-told2 .given .1) (g .look .ensures)) (q .put .ensures)
+
+walk-same-length-3 : (t : ℕ) → walk-lts.Need-same-length-3 (claims t) (walk-at t) walk.Post
+walk-same-length-3 t c = c .before .before .walk2 .kept .1 .1 .1 .1 .1 .1 .1 .1 .1 .1 .0 ∙ c .before .before .before .before .before .before .before .before .before .walk .kept .1 .1 .1 .1 .1 .1 .1 .1 .1 .1 .0
+
+walk-returns-6 : (t : ℕ) → walk-lts.Need-returns-6 (claims t) (walk-at t) walk.Post
+walk-returns-6 t c =
+    let h = c .before .before in
+    let k = h .before .before .before in
+    let g = k .before .before .before .before in
+    let w = g .before .before in
+    let s = w .before .before .before .before .before .before .before .before .before .before .before .before in
+    walk-second (tree-at t s) (s .args .allowance) (s .args .spent) (s .args .found) (s .args .out .now) (below-without t w) (below-with t w) (parted t w .parts)
+    (g .walk .last .1 .1 .1 .1 .1 .1 .1 .1 .1 .1 .0) (g .walk .result) (k .first2 .given .0 .0) (k .first2 .given .0 .1 .0) (g .walk .ensures) (k .first2 .given .1)
+    (h .walk2 .last .1 .1 .1 .1 .1 .1 .1 .1 .1 .1 .0) (h .walk2 .result) (h .walk2 .ensures)
+
+pub +walk-spec : {M : Type 1} → statement M
++walk-spec =
+    close
+    μ-walk
+    λ t. walk-lts.spec
+    (claims t)
+    (walk-at t)
+    walk.Post
+    (walk-returns t)
+    (walk-add-next t)
+    (walk-look-requires t)
+    (walk-enum-told t)
+    (walk-enum-told-2 t)
+    (walk-put-requires t)
+    (walk-add-t26 t)
+    (walk-enum-known-met t)
+    (walk-returns-2 t)
+    (walk-first-requires t)
+    (walk-one-requires t)
+    (walk-without-requires t)
+    (walk-walk-requires t)
+    (walk-enum-known-first t)
+    (walk-same-length t)
+    (walk-returns-3 t)
+    (walk-walk-requires-2 t)
+    (walk-returns-4 t)
+    (walk-same-length-2 t)
+    (walk-returns-5 t)
+    (walk-same-length-3 t)
+    (walk-returns-6 t)
