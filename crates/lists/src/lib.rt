@@ -66,7 +66,19 @@ fn walk(
             }
             let v = sets::one(sets::first(on));
             let rest = sets::without(among, v);
-            let first = walk(t, plan, groups, sought, all, c, rest, allowance, next, found, out);
+            let first = walk(
+                t,
+                plan,
+                groups,
+                sought,
+                all,
+                c,
+                rest,
+                allowance,
+                next,
+                found,
+                out,
+            );
             let Listed::Sets {
                 count,
                 visits: upto,
@@ -74,7 +86,19 @@ fn walk(
             else {
                 return first;
             };
-            walk(t, plan, groups, sought, all, c | v, rest, allowance, upto, count, out)
+            walk(
+                t,
+                plan,
+                groups,
+                sought,
+                all,
+                c | v,
+                rest,
+                allowance,
+                upto,
+                count,
+                out,
+            )
         }
     }
 }
@@ -92,12 +116,32 @@ fn copy(from: &[u64], to: &mut [u64], count: usize)
 }
 
 // Walks a whole tree; 9 and 13 come from the walk, 10 after it, and only then is the lent list written.
-fn fill(t: &[u64], plan: &[u64], groups: usize, sought: Sought, all: u64, allowance: u64, lent: &mut [u64]) -> Listed
+fn fill(
+    t: &[u64],
+    plan: &[u64],
+    groups: usize,
+    sought: Sought,
+    all: u64,
+    allowance: u64,
+    lent: &mut [u64],
+) -> Listed
     requires { ⌜ Ready (now t) (now plan) groups all ⌝ }
     ensures { λ o. ⌜ Promised (listSays allowance (length (now (lent .entry))) (list (treeOf (now (t .entry)) sought))) (listPuts (list (treeOf (now (t .entry)) sought))) (now (lent .entry)) (now (lent .exit)) o ⌝ }
 {
     let mut own = [0u64; 1024];
-    let walked = walk(t, plan, groups, sought, all, 0, all, allowance, 0, 0, &mut own);
+    let walked = walk(
+        t,
+        plan,
+        groups,
+        sought,
+        all,
+        0,
+        all,
+        allowance,
+        0,
+        0,
+        &mut own,
+    );
     let Listed::Sets { count, visits: _ } = walked else {
         return walked;
     };
@@ -121,7 +165,15 @@ fn answer(table: &[u64], sought: Sought, allowance: u64, lent: &mut [u64]) -> Li
         Checked::Sound { nodes, records: _ } => {
             let mut plan = [0u64; 128];
             let groups = groups::group(table, &mut plan);
-            fill(table, &plan, groups, sought, sets::all(nodes), allowance, lent)
+            fill(
+                table,
+                &plan,
+                groups,
+                sought,
+                sets::all(nodes),
+                allowance,
+                lent,
+            )
         }
     }
 }

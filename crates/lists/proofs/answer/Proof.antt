@@ -1,3 +1,19 @@
+-- A fault is handed on; of a sound table the nodes are grouped, and the whole tree is walked.
+use native.Mathlib.Omega.{arith}
+use mathlib.Core.Path.{_≡_, refl, sym, ap, _∙_, subst}
+use mathlib.Core.List.{List}
+use Prim.Native.Nat.{ℕ, _≤_}
+use lib.ListN.{length}
+use Rattle.sets.specs.Sets.{everyone}
+use Rattle.meanings.specs.Table.{nodes, records}
+use Rattle.meanings.specs.Faults.{Check, check, sound}
+use Rattle.meanings.specs.Trees.{list}
+use Rattle.meanings.specs.Questions.{onCheck, listSays, listPuts}
+use Rattle.answers.specs.declared.Listed.the-variants.{Bad}
+use Rattle.tables.proofs.Sound.{sound-table}
+use Rattle.faults.proofs.Known.{sound-known, fault-known}
+use Rattle.lists.specs.Lists.{Promised, treeOf}
+use Rattle.lists.proofs.Promise.{faulty}
 use borrow.Author.Needs.{needs}
 use Rattle.lists.proofs.answer.Statement.{statement}
 use Rattle.lists.proofs.answer.Tie as tie
@@ -8,49 +24,65 @@ use Rattle.groups.proofs.group.Reads as group-reads
 use Rattle.lists.proofs.fill.Reads as fill-reads
 use Rattle.sets.proofs.all.Reads as all-reads
 
--- src/lib.rt:118:9
 check-table-requires : tie.Need-check-table-requires
 check-table-requires c κs = search needs
 
--- src/lib.rt:120:22
 enum-known-checked : tie.Need-enum-known-checked
 enum-known-checked c = search needs
 
--- src/lib.rt:121:26
 enum-known-checked-2 : tie.Need-enum-known-checked-2
 enum-known-checked-2 c = search needs
 
--- src/lib.rt:123:47
 slice-aggregate-group : tie.Need-slice-aggregate-group
 slice-aggregate-group c = search needs
 
--- src/lib.rt:123:17
-group-requires : tie.Need-group-requires
-group-requires c κs = ?
+-- what the check has found
+passed : (c : tie.After-checked2) →
+    let t = c .before .before .before .before .before .args .table .now in
+    (check t ≡ sound) × (c .checked2 .given .0 .0 ≡ nodes t) × (c .checked2 .given .0 .1 .0 ≡ records t)
+passed c =
+    let k = c .before .before in
+    sound-known (k .before .before .before .args .table .now) (k .check-table .result) (k .check-table .ensures) (c .checked2 .given .0 .0) (c .checked2 .given .0 .1 .0) (c .checked2 .given .1)
 
--- src/lib.rt:124:25
+group-requires : tie.Need-group-requires
+group-requires c κs = (passed (c .before .before) .0, omega arith)
+
 slice-aggregate-fill : tie.Need-slice-aggregate-fill
 slice-aggregate-fill c = search needs
 
--- src/lib.rt:124:48
 all-requires : tie.Need-all-requires
-all-requires c κs = ?
+all-requires c κs =
+    let p = passed (c .before .before .before .before .before) in
+    let m = sound-table (c .before .before .before .before .before .before .before .before .before .before .args .table .now) (p .0) .nodes-le in
+    let e = p .1 in
+    omega arith
 
--- src/lib.rt:124:13
 fill-requires : tie.Need-fill-requires
-fill-requires c κs = ?
+fill-requires c κs =
+    let p = passed (c .before .before .before .before .before .before .before) in
+    record { grouped = c .before .before .before .before .group .ensures .0; whole = c .before .all .ensures ∙ ap (λ (n : ℕ). everyone n) (p .1) }
 
--- src/lib.rt:115:1
 returns : tie.Need-returns
-returns c = ?
+returns c =
+    let g = c .before in
+    let k = g .before .before in
+    let s = k .before .before .before in
+    let r = listSays (s .args .allowance) (length (s .args .lent .now)) (list (treeOf (s .args .table .now) (s .args .sought))) in
+    faulty (g .checked .given .0 .0) (check (s .args .table .now)) r (listPuts (list (treeOf (s .args .table .now) (s .args .sought)))) (s .args .lent .now)
+    (fault-known (s .args .table .now) (k .check-table .result) (k .check-table .ensures) (g .checked .given .0 .0) (g .checked .given .1) r)
 
--- src/lib.rt:115:1
 same-length : tie.Need-same-length
 same-length c = search needs
 
--- src/lib.rt:115:1
 returns-2 : tie.Need-returns-2
-returns-2 c = ?
+returns-2 c =
+    let f = c .before .before in
+    let s = c .before .before .before .before .before .before .before .before .before .before .before .before .before .before .before in
+    let p = passed (f .before .before .before .before .before .before .before .before) in
+    let t = s .args .table .now in
+    let before = s .args .lent .now in
+    subst (λ (x : Check). Promised (onCheck x (listSays (s .args .allowance) (length before) (list (treeOf t (s .args .sought))))) (listPuts (list (treeOf t (s .args .sought)))) before (f .fill .last .1 .1 .1 .1 .1 .1 .0) (f .fill .result))
+    (sym (p .0)) (f .fill .ensures)
 
 pub answer-spec : {M : Type 1} → statement M
 answer-spec =

@@ -65,9 +65,9 @@ loop-again c =
     let b : L .loop .i < length (s .args .from .now) = omega (arith, s .pre .0) in (
       omega arith,
       ap (λ (x : List ℕ). set x (L .loop .i) (getD (s .args .from .now) (L .loop .i) 0)) (L .loop .inv .1)
-      ∙ ap (λ (k : ℕ). set (paste (s .args .to .now) 0 (s .args .from .now) (L .loop .i)) k (getD (s .args .from .now) (L .loop .i) 0)) (sym z)
-      ∙ paste-suc (s .args .to .now) 0 (s .args .from .now) (L .loop .i) 0 a b
-      ∙ ap (paste (s .args .to .now) 0 (s .args .from .now)) (sym (add-one (L .loop .i))),
+          ∙ ap (λ (k : ℕ). set (paste (s .args .to .now) 0 (s .args .from .now) (L .loop .i)) k (getD (s .args .from .now) (L .loop .i) 0)) (sym z)
+          ∙ paste-suc (s .args .to .now) 0 (s .args .from .now) (L .loop .i) 0 a b
+          ∙ ap (paste (s .args .to .now) 0 (s .args .from .now)) (sym (add-one (L .loop .i))),
     )
 
 same-length : tie.Need-same-length Inv-loop μ-loop
