@@ -1,6 +1,6 @@
 -- From a walk of the whole tree to the promise: a refusal of the walk is the answer; a list longer than the lent one is number 10; and
 -- any other stands at the front of the lent list.
-use mathlib.Core.Path.{_≡_, refl, sym, ap, ap₂, _∙_, subst}
+use mathlib.Core.Path.{_≡_, refl, sym, ap, _∙_, subst}
 use mathlib.Core.Bool.{Bool, true, false, cond}
 use mathlib.Core.List.{List, [], _∷_, _++_}
 use Prim.Native.Nat.{ℕ, _+_, _≤_, _<_}
@@ -19,8 +19,9 @@ use Rattle.answers.specs.declared.Fault.the-variants as Fx
 use Rattle.answers.specs.declared.Listed.{Listed}
 use Rattle.answers.specs.declared.Listed.the-variants.{Sets, Short, Spent, Unsplit, Bad}
 use Rattle.answers.specs.Said.{faultSays, listedSays}
-use Rattle.lists.specs.Lists.{Promised, answered, Walked}
-use Rattle.lists.proofs.Laws.{Refuses, Told, told}
+use Rattle.walks.specs.Walked.{answered, Walked}
+use Rattle.walks.proofs.Laws.{Refuses, Told, told}
+use Rattle.lists.specs.Lists.{Promised}
 
 -- a number above 0 leaves the lent list as it was
 pub untouched : (r : Reply) (own before : List ℕ) (o : Listed) → listedSays o ≡ r → eqb (r .number) 0 ≡ false → Promised r own before before o

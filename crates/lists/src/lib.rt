@@ -1,107 +1,18 @@
-// The minimal quorums and the minimal blocking sets: document 01, 'The search trees' and 'Numbers given back'. One walk serves both trees:
-// it counts every listed set and writes it where there is a place for it. A refusal must leave the lent list untouched, so the first
-// walk writes into a list of its own; only a list that this cannot hold, and the lent one can, is walked for a second time.
+// The minimal quorums and the minimal blocking sets: document 01, 'The search trees' and 'Numbers given back'. A refusal must leave the lent
+// list untouched, so the first walk writes into a list of its own; only where that is too short and the lent one is not is the tree
+// walked for a second time.
 ghost use mathlib.Core.Path.{_≡_};
-ghost use Prim.Native.Nat.{_≤_};
 ghost use mathlib.Core.List.{_++_};
-ghost use lib.ListN.{length, set, take, drop};
-ghost use Rattle.sets.specs.Sets.{nobody, everyone};
+ghost use Prim.Native.Nat.{_≤_};
+ghost use lib.ListN.{length, take, drop};
 ghost use Rattle.meanings.specs.Table.{nodes, satisfied};
 ghost use Rattle.meanings.specs.Faults.{check};
 ghost use Rattle.meanings.specs.Trees.{list, minimalTree, blockingTree};
 ghost use Rattle.meanings.specs.Questions.{onCheck, listSays, listPuts, minimalReply, blockingReply};
-ghost use Rattle.visits.specs.Visits.{treeAt};
-ghost use Rattle.lists.specs.Lists.{Walking, Walked, Ready, Promised, treeOf};
+ghost use Rattle.lists.specs.Lists.{Ready, Promised, treeOf};
 use answers::Checked;
 use answers::Listed;
 use visits::Sought;
-use visits::Step;
-
-// Writes x at a place, where the list has it.
-fn put(out: &mut [u64], at: u64, x: u64)
-    ensures { λ o. ⌜ now (out .exit) ≡ set (now (out .entry)) at x ⌝ }
-{
-    if at < out.len() as u64 {
-        out[at as usize] = x;
-    }
-}
-
-// Walks the tree below a visit, with so many visits spent and sets found before it. Below a split fewer nodes are open, so it ends.
-fn walk(
-    t: &[u64],
-    plan: &[u64],
-    groups: usize,
-    sought: Sought,
-    all: u64,
-    c: u64,
-    r: u64,
-    allowance: u64,
-    spent: u64,
-    found: u64,
-    out: &mut [u64],
-) -> Listed
-    requires { ⌜ Walking (now t) (now plan) groups all c r spent found ⌝ }
-    ensures { λ o. ⌜ Walked (treeAt (nodes (now (t .entry))) (satisfied (now (t .entry))) sought c r) allowance spent found (now (out .entry)) (now (out .exit)) o ⌝ }
-{
-    if allowance <= spent {
-        return Listed::Spent { visits: allowance };
-    }
-    let next = spent + 1;
-    let met = visits::look(t, plan, groups, sought, all, c, r);
-    match met {
-        Step::Leaf => Listed::Sets {
-            count: found,
-            visits: next,
-        },
-        Step::Listed => {
-            put(out, found, c);
-            Listed::Sets {
-                count: found + 1,
-                visits: next,
-            }
-        }
-        Step::Split { on, among } => {
-            if on == 0 {
-                return Listed::Unsplit;
-            }
-            let v = sets::one(sets::first(on));
-            let rest = sets::without(among, v);
-            let first = walk(
-                t,
-                plan,
-                groups,
-                sought,
-                all,
-                c,
-                rest,
-                allowance,
-                next,
-                found,
-                out,
-            );
-            let Listed::Sets {
-                count,
-                visits: upto,
-            } = first
-            else {
-                return first;
-            };
-            walk(
-                t,
-                plan,
-                groups,
-                sought,
-                all,
-                c | v,
-                rest,
-                allowance,
-                upto,
-                count,
-                out,
-            )
-        }
-    }
-}
 
 // Copies the first words of one list to the front of another.
 fn copy(from: &[u64], to: &mut [u64], count: usize)
@@ -129,7 +40,7 @@ fn fill(
     ensures { λ o. ⌜ Promised (listSays allowance (length (now (lent .entry))) (list (treeOf (now (t .entry)) sought))) (listPuts (list (treeOf (now (t .entry)) sought))) (now (lent .entry)) (now (lent .exit)) o ⌝ }
 {
     let mut own = [0u64; 1024];
-    let walked = walk(
+    let walked = walks::walk(
         t,
         plan,
         groups,
@@ -149,7 +60,7 @@ fn fill(
         return Listed::Short { count };
     }
     if 1024 < count {
-        return walk(t, plan, groups, sought, all, 0, all, allowance, 0, 0, lent);
+        return walks::walk(t, plan, groups, sought, all, 0, all, allowance, 0, 0, lent);
     }
     copy(&own, lent, count as usize);
     walked

@@ -2,21 +2,20 @@
 -- left without that node. A blocking set likewise: what holds a blocking set blocks.
 use mathlib.Core.Path.{_≡_, refl, sym, ap, _∙_, subst}
 use mathlib.Core.Bool.{Bool, true, false, not}
-use mathlib.Core.List.{List}
-use mathlib.Core.Logic.{_⊎_, inl, inr, ⊎-elim}
-use Prim.Native.Nat.{ℕ, suc, _^_, _≤_, _<_}
+use mathlib.Core.Logic.{_⊎_, ⊎-elim}
+use Prim.Native.Nat.{ℕ, _^_, _≤_, _<_}
 use native.Mathlib.Omega.{arith}
-use borrow.Author.Tests.{eqb-true, eqb-false, eq-eqb, ne-eqb}
+use borrow.Author.Tests.{eqb-false, eq-eqb, ne-eqb}
 use lib.Pow.{pow-mono}
-use Rattle.sets.specs.Sets.{has, nobody, everyone, only, _∪_, _∩_, _∖_, empty, within, size, lowest, each}
-use Rattle.sets.proofs.Bools.{either, clash, fails, not-holds, not-fails, bool-ext, or-left, or-right, or-neither}
-use Rattle.sets.proofs.Members.{In, Sub, has-nobody, has-below, ∖-in, ∖-out, ∖-lt, only-in, only-out, none-in, sub-antisym, within-sub, sub-within, each-at, at-each}
+use Rattle.sets.specs.Sets.{has, nobody, everyone, only, _∪_, _∩_, _∖_, empty, within, size, lowest}
+use Rattle.sets.proofs.Bools.{either, clash, fails, not-holds, bool-ext, or-left, or-right, or-neither}
+use Rattle.sets.proofs.Members.{In, Sub, has-nobody, has-below, ∖-in, ∖-out, ∖-lt, only-in, only-out, none-in, sub-antisym}
 use Rattle.sets.proofs.Size.{size-lt}
 use Rattle.sets.proofs.Lowest.{lowest-in}
 use Rattle.meanings.specs.Quorums.{quorum, holdsQuorum, minimalQuorum, blockingSet, minimalBlocking, greatest}
-use Rattle.meanings.specs.Trees.{Tree, leaf, found, unsplit, fork, foundIf, quorumTree, blockingFrom}
+use Rattle.meanings.specs.Trees.{Tree, leaf, found, foundIf}
 use Rattle.theory.proofs.Quorum.{Quorum, quorum-is, a-node}
-use Rattle.theory.proofs.Greatest.{greatest-has, greatest-holds, greatest-none, holds-greatest}
+use Rattle.theory.proofs.Greatest.{greatest-has, greatest-holds, holds-greatest}
 use Rattle.theory.proofs.QuorumTree as Q
 use Rattle.theory.proofs.Minimal as M
 use Rattle.theory.proofs.Blocking as B

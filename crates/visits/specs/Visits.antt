@@ -1,6 +1,6 @@
 -- What a visit comes to, said of the tree that lies below it.
 use mathlib.Core.Path.{_≡_}
-use mathlib.Core.Bool.{Bool, true, false}
+use mathlib.Core.Bool.{Bool, false}
 use mathlib.Core.List.{List}
 use Prim.Native.Nat.{ℕ, suc, _<_, _^_}
 use Rattle.sets.specs.Sets.{nobody, everyone, only, _∪_, _∖_, size, lowest}

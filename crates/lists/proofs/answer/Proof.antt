@@ -1,15 +1,13 @@
 -- A fault is handed on; of a sound table the nodes are grouped, and the whole tree is walked.
 use native.Mathlib.Omega.{arith}
-use mathlib.Core.Path.{_≡_, refl, sym, ap, _∙_, subst}
-use mathlib.Core.List.{List}
-use Prim.Native.Nat.{ℕ, _≤_}
+use mathlib.Core.Path.{_≡_, sym, ap, _∙_, subst}
+use Prim.Native.Nat.{ℕ}
 use lib.ListN.{length}
 use Rattle.sets.specs.Sets.{everyone}
 use Rattle.meanings.specs.Table.{nodes, records}
 use Rattle.meanings.specs.Faults.{Check, check, sound}
 use Rattle.meanings.specs.Trees.{list}
 use Rattle.meanings.specs.Questions.{onCheck, listSays, listPuts}
-use Rattle.answers.specs.declared.Listed.the-variants.{Bad}
 use Rattle.tables.proofs.Sound.{sound-table}
 use Rattle.faults.proofs.Known.{sound-known, fault-known}
 use Rattle.lists.specs.Lists.{Promised, treeOf}
@@ -17,12 +15,6 @@ use Rattle.lists.proofs.Promise.{faulty}
 use borrow.Author.Needs.{needs}
 use Rattle.lists.proofs.answer.Statement.{statement}
 use Rattle.lists.proofs.answer.Tie as tie
-use Rattle.lists.proofs.answer.Reads as reads
-use Rattle.lists.proofs.answer.Lts as lts
-use Rattle.faults.proofs.check_table.Reads as check-table-reads
-use Rattle.groups.proofs.group.Reads as group-reads
-use Rattle.lists.proofs.fill.Reads as fill-reads
-use Rattle.sets.proofs.all.Reads as all-reads
 
 check-table-requires : tie.Need-check-table-requires
 check-table-requires c κs = search needs

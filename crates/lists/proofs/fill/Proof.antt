@@ -1,9 +1,8 @@
 -- The first walk is made into a list of the function's own, so that a refusal leaves the lent one as it was.
-use native.Mathlib.Omega.{arith}
 use native.Mathlib.Nat.{le-refl}
-use mathlib.Core.Path.{_≡_, refl, sym, ap, _∙_, subst}
+use mathlib.Core.Path.{_≡_, refl, sym, subst}
 use mathlib.Core.List.{List}
-use Prim.Native.Nat.{ℕ, _≤_, _<_, _^_}
+use Prim.Native.Nat.{ℕ, _<_, _^_}
 use lib.ListN.{length}
 use lib.Pow.{pow-pos}
 use Rattle.sets.specs.Sets.{nobody, everyone}
@@ -15,16 +14,13 @@ use Rattle.visits.specs.declared.Sought.{Sought}
 use Rattle.visits.specs.Visits.{treeAt}
 use Rattle.answers.specs.declared.Listed.{Listed}
 use Rattle.answers.specs.declared.Listed.the-variants.{Sets, Short}
-use Rattle.lists.specs.Lists.{Ready, Walking, Promised, treeOf}
-use Rattle.lists.proofs.Laws.{refused}
+use Rattle.walks.specs.Walked.{Walking}
+use Rattle.lists.specs.Lists.{Ready, Promised, treeOf}
+use Rattle.walks.proofs.Laws.{refused}
 use Rattle.lists.proofs.Promise.{own-refused, own-short, own-copied, lent-walked}
 use borrow.Author.Needs.{needs}
 use Rattle.lists.proofs.fill.Statement.{statement}
 use Rattle.lists.proofs.fill.Tie as tie
-use Rattle.lists.proofs.fill.Reads as reads
-use Rattle.lists.proofs.fill.Lts as lts
-use Rattle.lists.proofs.copy.Reads as copy-reads
-use Rattle.lists.proofs.walk.Reads as walk-reads
 
 -- from C empty and R = all
 from-start : (t plan : List ℕ) (groups all : ℕ) → Ready t plan groups all → Walking t plan groups all 0 all 0 0

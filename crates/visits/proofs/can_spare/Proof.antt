@@ -1,8 +1,8 @@
 -- What is left without the node, put to the test of its kind.
 use native.Mathlib.Omega.{arith}
-use mathlib.Core.Path.{_≡_, sym, ap, ap₂, _∙_, subst}
+use mathlib.Core.Path.{_≡_, sym, ap, _∙_, subst}
 use mathlib.Core.Bool.{not}
-use Prim.Native.Nat.{ℕ, _<_, _≤_, _^_}
+use Prim.Native.Nat.{ℕ, _<_, _^_}
 use Rattle.sets.specs.Sets.{nobody, everyone, only, _∖_}
 use Rattle.sets.proofs.Members.{∖-lt, everyone-lt}
 use Rattle.meanings.specs.Table.{nodes, satisfied}

@@ -1,6 +1,6 @@
 -- The steps of the tree's definition in their order: no quorum in reach, a chosen node out of reach, a quorum, a split.
-use mathlib.Core.Path.{_≡_, sym, ap, _∙_}
-use Rattle.sets.specs.Sets.{nobody, _∪_}
+use mathlib.Core.Path.{_≡_, sym, _∙_}
+use Rattle.sets.specs.Sets.{_∪_}
 use Rattle.sets.proofs.Members.{∪-lt}
 use Rattle.meanings.specs.Table.{nodes, satisfied}
 use Rattle.meanings.specs.Quorums.{minimalQuorum}

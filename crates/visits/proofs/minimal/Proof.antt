@@ -1,16 +1,14 @@
 -- The nodes of c are taken out one after another, the lowest first; those that are out cannot be spared.
 use native.Mathlib.Omega.{arith}
-use mathlib.Core.Path.{_≡_, refl, sym, ap, _∙_, subst}
-use Prim.Native.Nat.{ℕ, _<_, _≤_, _^_}
-use Rattle.sets.specs.Sets.{nobody, only, _∖_, size}
+use mathlib.Core.Path.{_≡_, sym, ap, _∙_, subst}
+use Prim.Native.Nat.{ℕ, _<_, _≤_}
+use Rattle.sets.specs.Sets.{only, _∖_, size}
 use Rattle.meanings.specs.Table.{nodes, satisfied}
 use Rattle.tables.proofs.Sound.{sound-table}
 use Rattle.visits.proofs.Laws.{Left, left-all, left-none, next-lt, next-spared, next-fewer, left-next}
 use borrow.Author.Needs.{needs}
 use Rattle.visits.proofs.minimal.Statement.{statement}
 use Rattle.visits.proofs.minimal.Tie as tie
-use Rattle.visits.proofs.minimal.Reads as reads
-use Rattle.visits.proofs.minimal.Lts as lts
 
 abbrev Inv-loop : tie.InvT-loop
 Inv-loop t plan groups sought all c left₀ left = Left (nodes t) (satisfied t) sought c left

@@ -1,28 +1,27 @@
 -- The visit, then the walk of the first part, then, where that is answered, the walk of the second, which goes on where it stopped.
 use native.Mathlib.Omega.{arith}
-use mathlib.Core.Path.{_≡_, refl, sym, ap, _∙_, subst}
-use lib.ListN.{length, length-set}
-use Rattle.sets.specs.Sets.{nobody, only, _∪_, size}
+use mathlib.Core.Path.{sym, ap, _∙_, subst}
+use Rattle.sets.specs.Sets.{only, _∪_, size}
 use Rattle.meanings.specs.Table.{nodes, satisfied}
 use Rattle.meanings.specs.Trees.{Tree}
 use Rattle.tables.proofs.Sound.{sound-table}
 use Rattle.visits.specs.declared.Step.{Step}
 use Rattle.visits.specs.Visits.{treeAt, Comes, Splits}
-use Rattle.lists.proofs.Laws.{walk-spent, walk-leaf, walk-found, walk-unsplit, walk-first, walk-second, still-fewer, low-lt, Below, below, refused}
+use Rattle.walks.proofs.Laws.{walk-spent, walk-leaf, walk-found, walk-unsplit, walk-first, walk-second, still-fewer, low-lt, Below, below, refused}
 use borrow.Author.Needs.{needs}
-use Prim.Native.Nat.{ℕ, _<_, _≤_, _+_, _^_}
+use Prim.Native.Nat.{ℕ, _<_, _≤_, _+_}
 use borrow.Fn.Kinds.{In}
 use borrow.Fn.PlainCycle.{Measures, is, falls, and}
-use Rattle.lists.proofs.walk.Reads as walk
-use Rattle.lists.proofs.walk.Kinds as walk-kinds
-use Rattle.lists.proofs.+walk.Lts-walk as walk-lts
-use Rattle.lists.proofs.put.Reads as put-reads
+use Rattle.walks.proofs.walk.Reads as walk
+use Rattle.walks.proofs.walk.Kinds as walk-kinds
+use Rattle.walks.proofs.+walk.Lts-walk as walk-lts
+use Rattle.walks.proofs.put.Reads as put-reads
 use Rattle.sets.proofs.first.Reads as first-reads
 use Rattle.sets.proofs.one.Reads as one-reads
 use Rattle.sets.proofs.without.Reads as without-reads
 use Rattle.visits.proofs.look.Reads as look-reads
-use Rattle.lists.proofs.+walk.{statement}
-use Rattle.lists.proofs.+walk.Tie.{close}
+use Rattle.walks.proofs.+walk.{statement}
+use Rattle.walks.proofs.+walk.Tie.{close}
 
 -- the open nodes fall
 abbrev μ-walk : Measures 3 walk-kinds.ps ℕ

@@ -2,8 +2,8 @@
 use mathlib.Core.Path.{_≡_, sym}
 use lib.Seq.{set-out}
 use borrow.Author.Needs.{needs}
-use Rattle.lists.proofs.put.Statement.{statement}
-use Rattle.lists.proofs.put.Tie as tie
+use Rattle.walks.proofs.put.Statement.{statement}
+use Rattle.walks.proofs.put.Tie as tie
 
 mul-out : tie.Need-mul-out
 mul-out c = search needs

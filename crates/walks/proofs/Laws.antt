@@ -3,28 +3,26 @@
 use mathlib.Core.Path.{_≡_, refl, sym, ap, ap₂, _∙_, subst}
 use mathlib.Core.Bool.{Bool, true, false, cond}
 use mathlib.Core.List.{List, [], _∷_, _++_}
-use mathlib.Core.Logic.{_⊎_, inl, inr, ⊎-elim}
-use Prim.Native.Nat.{ℕ, zero, suc, _+_, _^_, _≤_, _<_}
-use native.Mathlib.Nat.{le-refl, add-zero, zero-add}
+use mathlib.Core.Logic.{_⊎_, inl, inr}
+use Prim.Native.Nat.{ℕ, suc, _+_, _^_, _≤_, _<_}
+use native.Mathlib.Nat.{le-refl, add-zero}
 use native.Mathlib.Omega.{arith}
-use borrow.Author.Tests.{leb-true, leb-false, le-leb, lt-leb, ltb-true, lt-ltb, le-ltb}
-use lib.Dec.{leb, ltb, eqb}
-use lib.ListN.{length, take, drop, set, length-append, length-set}
-use lib.Seq.{sets, length-sets, sets-eq, take-append-seam}
+use borrow.Author.Tests.{leb-true, leb-false, le-leb, lt-leb}
+use lib.Dec.{leb}
+use lib.ListN.{length, set, length-append}
+use lib.Seq.{sets}
 use lib.Pow.{pow-lt}
 use Rattle.sets.specs.Sets.{nobody, only, _∪_, _∖_, size, lowest}
 use Rattle.sets.proofs.Members.{∪-lt, ∖-lt}
 use Rattle.sets.proofs.Size.{size-at}
 use Rattle.sets.proofs.Lowest.{lowest-at, lowest-lt}
 use Rattle.meanings.specs.Trees.{Tree, leaf, found, unsplit, fork, Listing, listed, broken, thenList, list}
-use Rattle.meanings.specs.Replies.{Reply, reply, _is_, Count, Visits, leaves}
-use Rattle.meanings.specs.Questions.{listSays, listPuts}
+use Rattle.meanings.specs.Questions.{listPuts}
 use Rattle.answers.specs.declared.Listed.{Listed}
 use Rattle.answers.specs.declared.Listed.the-variants.{Sets, Short, Spent, Unsplit, Bad}
-use Rattle.answers.specs.Said.{listedSays}
 use Rattle.visits.specs.declared.Sought.{Sought}
 use Rattle.visits.specs.Visits.{treeAt, Splits}
-use Rattle.lists.specs.Lists.{Promised, answered, Walked}
+use Rattle.walks.specs.Walked.{answered, Walked}
 
 -- ---- a tree has a visit, and no more finds than visits
 abbrev Counted : Listing ℕ → Type 0

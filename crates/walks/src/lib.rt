@@ -1,0 +1,96 @@
+// Walking a listing tree within an allowance: document 01, 'The search trees'. One walk serves both trees. It counts every listed set, and
+// writes it where there is a place for it; visits spent are handed along, so that a refusal is handed back unchanged.
+ghost use mathlib.Core.Path.{_≡_};
+ghost use lib.ListN.{set};
+ghost use Rattle.meanings.specs.Table.{nodes, satisfied};
+ghost use Rattle.visits.specs.Visits.{treeAt};
+ghost use Rattle.walks.specs.Walked.{Walking, Walked};
+use answers::Listed;
+use visits::Sought;
+use visits::Step;
+
+// Writes x at a place, where the list has it.
+fn put(out: &mut [u64], at: u64, x: u64)
+    ensures { λ o. ⌜ now (out .exit) ≡ set (now (out .entry)) at x ⌝ }
+{
+    if at < out.len() as u64 {
+        out[at as usize] = x;
+    }
+}
+
+// Walks the tree below a visit, with so many visits spent and sets found before it. Below a split fewer nodes are open, so it ends.
+pub fn walk(
+    t: &[u64],
+    plan: &[u64],
+    groups: usize,
+    sought: Sought,
+    all: u64,
+    c: u64,
+    r: u64,
+    allowance: u64,
+    spent: u64,
+    found: u64,
+    out: &mut [u64],
+) -> Listed
+    requires { ⌜ Walking (now t) (now plan) groups all c r spent found ⌝ }
+    ensures { λ o. ⌜ Walked (treeAt (nodes (now (t .entry))) (satisfied (now (t .entry))) sought c r) allowance spent found (now (out .entry)) (now (out .exit)) o ⌝ }
+{
+    if allowance <= spent {
+        return Listed::Spent { visits: allowance };
+    }
+    let next = spent + 1;
+    let met = visits::look(t, plan, groups, sought, all, c, r);
+    match met {
+        Step::Leaf => Listed::Sets {
+            count: found,
+            visits: next,
+        },
+        Step::Listed => {
+            put(out, found, c);
+            Listed::Sets {
+                count: found + 1,
+                visits: next,
+            }
+        }
+        Step::Split { on, among } => {
+            if on == 0 {
+                return Listed::Unsplit;
+            }
+            let v = sets::one(sets::first(on));
+            let rest = sets::without(among, v);
+            let first = walk(
+                t,
+                plan,
+                groups,
+                sought,
+                all,
+                c,
+                rest,
+                allowance,
+                next,
+                found,
+                out,
+            );
+            let Listed::Sets {
+                count,
+                visits: upto,
+            } = first
+            else {
+                return first;
+            };
+            walk(
+                t,
+                plan,
+                groups,
+                sought,
+                all,
+                c | v,
+                rest,
+                allowance,
+                upto,
+                count,
+                out,
+            )
+        }
+    }
+}
