@@ -13,6 +13,7 @@ ghost use Rattle.lists.specs.Lists.{Ready, Promised, treeOf};
 use answers::Checked;
 use answers::Listed;
 use visits::Sought;
+use walks::Search;
 
 // Copies the first words of one list to the front of another.
 fn copy(from: &[u64], to: &mut [u64], count: usize)
@@ -27,32 +28,12 @@ fn copy(from: &[u64], to: &mut [u64], count: usize)
 }
 
 // Walks a whole tree; 9 and 13 come from the walk, 10 after it, and only then is the lent list written.
-fn fill(
-    t: &[u64],
-    plan: &[u64],
-    groups: usize,
-    sought: Sought,
-    all: u64,
-    allowance: u64,
-    lent: &mut [u64],
-) -> Listed
-    requires { ⌜ Ready (now t) (now plan) groups all ⌝ }
-    ensures { λ o. ⌜ Promised (listSays allowance (length (now (lent .entry))) (list (treeOf (now (t .entry)) sought))) (listPuts (list (treeOf (now (t .entry)) sought))) (now (lent .entry)) (now (lent .exit)) o ⌝ }
+fn fill(t: &[u64], plan: &[u64], s: Search, lent: &mut [u64]) -> Listed
+    requires { ⌜ Ready (now t) (now plan) (s .groups) (s .all) ⌝ }
+    ensures { λ o. ⌜ Promised (listSays (s .allowance) (length (now (lent .entry))) (list (treeOf (now (t .entry)) (s .sought)))) (listPuts (list (treeOf (now (t .entry)) (s .sought)))) (now (lent .entry)) (now (lent .exit)) o ⌝ }
 {
     let mut own = [0u64; 1024];
-    let walked = walks::walk(
-        t,
-        plan,
-        groups,
-        sought,
-        all,
-        0,
-        all,
-        allowance,
-        0,
-        0,
-        &mut own,
-    );
+    let walked = walks::walk(t, plan, s, 0, s.all, 0, 0, &mut own);
     let Listed::Sets { count, visits: _ } = walked else {
         return walked;
     };
@@ -60,7 +41,7 @@ fn fill(
         return Listed::Short { count };
     }
     if 1024 < count {
-        return walks::walk(t, plan, groups, sought, all, 0, all, allowance, 0, 0, lent);
+        return walks::walk(t, plan, s, 0, s.all, 0, 0, lent);
     }
     copy(&own, lent, count as usize);
     walked
@@ -76,15 +57,14 @@ fn answer(table: &[u64], sought: Sought, allowance: u64, lent: &mut [u64]) -> Li
         Checked::Sound { nodes, records: _ } => {
             let mut plan = [0u64; 128];
             let groups = groups::group(table, &mut plan);
-            fill(
-                table,
-                &plan,
-                groups,
+            let all = sets::all(nodes);
+            let s = Search {
                 sought,
-                sets::all(nodes),
+                groups,
+                all,
                 allowance,
-                lent,
-            )
+            };
+            fill(table, &plan, s, lent)
         }
     }
 }

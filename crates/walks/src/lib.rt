@@ -18,28 +18,36 @@ fn put(out: &mut [u64], at: u64, x: u64)
     }
 }
 
+// What stays the same throughout a search: the sets sought, the groups of the plan, all nodes, and the allowance.
+pub struct Search {
+    pub sought: Sought,
+    pub groups: usize,
+    pub all: u64,
+    pub allowance: u64,
+}
+
 // Walks the tree below a visit, with so many visits spent and sets found before it. Below a split fewer nodes are open, so it ends.
 pub fn walk(
     t: &[u64],
     plan: &[u64],
-    groups: usize,
-    sought: Sought,
-    all: u64,
+    s: Search,
     c: u64,
     r: u64,
-    allowance: u64,
     spent: u64,
     found: u64,
     out: &mut [u64],
 ) -> Listed
-    requires { ⌜ Walking (now t) (now plan) groups all c r spent found ⌝ }
-    ensures { λ o. ⌜ Walked (treeAt (nodes (now (t .entry))) (satisfied (now (t .entry))) sought c r) allowance spent found (now (out .entry)) (now (out .exit)) o ⌝ }
+    requires { ⌜ Walking (now t) (now plan) (s .groups) (s .all) c r spent found ⌝ }
+    ensures { λ o. ⌜ Walked (treeAt (nodes (now (t .entry))) (satisfied (now (t .entry))) (s .sought) c r) (s .allowance) spent found (now (out .entry)) (now (out .exit)) o ⌝ }
 {
-    if allowance <= spent {
-        return Listed::Spent { visits: allowance };
+    if s.allowance <= spent {
+        return Listed::Spent {
+            visits: s.allowance,
+        };
     }
     let next = spent + 1;
-    let met = visits::look(t, plan, groups, sought, all, c, r);
+    let sought = s.sought;
+    let met = visits::look(t, plan, s.groups, sought, s.all, c, r);
     match met {
         Step::Leaf => Listed::Sets {
             count: found,
@@ -58,39 +66,11 @@ pub fn walk(
             }
             let v = sets::one(sets::first(on));
             let rest = sets::without(among, v);
-            let first = walk(
-                t,
-                plan,
-                groups,
-                sought,
-                all,
-                c,
-                rest,
-                allowance,
-                next,
-                found,
-                out,
-            );
-            let Listed::Sets {
-                count,
-                visits: upto,
-            } = first
-            else {
+            let first = walk(t, plan, s, c, rest, next, found, out);
+            let Listed::Sets { count, visits } = first else {
                 return first;
             };
-            walk(
-                t,
-                plan,
-                groups,
-                sought,
-                all,
-                c | v,
-                rest,
-                allowance,
-                upto,
-                count,
-                out,
-            )
+            walk(t, plan, s, c | v, rest, visits, count, out)
         }
     }
 }

@@ -39,20 +39,20 @@ passed c =
 group-requires : tie.Need-group-requires
 group-requires c κs = (passed (c .before .before) .0, omega arith)
 
-slice-aggregate-fill : tie.Need-slice-aggregate-fill
-slice-aggregate-fill c = search needs
-
 all-requires : tie.Need-all-requires
 all-requires c κs =
-    let p = passed (c .before .before .before .before .before) in
-    let m = sound-table (c .before .before .before .before .before .before .before .before .before .before .args .table .now) (p .0) .nodes-le in
+    let p = passed (c .before .before .before .before) in
+    let m = sound-table (c .before .before .before .before .before .before .before .before .before .args .table .now) (p .0) .nodes-le in
     let e = p .1 in
     omega arith
+
+slice-aggregate-fill : tie.Need-slice-aggregate-fill
+slice-aggregate-fill c = search needs
 
 fill-requires : tie.Need-fill-requires
 fill-requires c κs =
     let p = passed (c .before .before .before .before .before .before .before) in
-    record { grouped = c .before .before .before .before .group .ensures .0; whole = c .before .all .ensures ∙ ap (λ (n : ℕ). everyone n) (p .1) }
+    record { grouped = c .before .before .before .before .group .ensures .0; whole = c .before .before .all .ensures ∙ ap (λ (n : ℕ). everyone n) (p .1) }
 
 returns : tie.Need-returns
 returns c =
@@ -73,7 +73,7 @@ returns-2 c =
     let p = passed (f .before .before .before .before .before .before .before .before) in
     let t = s .args .table .now in
     let before = s .args .lent .now in
-    subst (λ (x : Check). Promised (onCheck x (listSays (s .args .allowance) (length before) (list (treeOf t (s .args .sought))))) (listPuts (list (treeOf t (s .args .sought)))) before (f .fill .last .1 .1 .1 .1 .1 .1 .0) (f .fill .result))
+    subst (λ (x : Check). Promised (onCheck x (listSays (s .args .allowance) (length before) (list (treeOf t (s .args .sought))))) (listPuts (list (treeOf t (s .args .sought)))) before (f .fill .last .1 .1 .1 .0) (f .fill .result))
     (sym (p .0)) (f .fill .ensures)
 
 pub answer-spec : {M : Type 1} → statement M
@@ -85,8 +85,8 @@ answer-spec =
     enum-known-checked-2
     slice-aggregate-group
     group-requires
-    slice-aggregate-fill
     all-requires
+    slice-aggregate-fill
     fill-requires
     returns
     same-length

@@ -46,7 +46,7 @@ slice-aggregate-walk c = search needs
 walk-requires : tie.Need-walk-requires
 walk-requires c κs =
     let s = c .before .before .before .before in
-    from-start (s .args .t .now) (s .args .plan .now) (s .args .groups) (s .args .all) (s .pre)
+    from-start (s .args .t .now) (s .args .plan .now) (s .args .s .groups) (s .args .s .all) (s .pre)
 
 enum-known-walked : tie.Need-enum-known-walked
 enum-known-walked c = search needs
@@ -55,8 +55,8 @@ returns : tie.Need-returns
 returns c =
     let w = c .before .before in
     let s = w .before .before .before .before .before in
-    whole-tree (s .args .t .now) (s .args .sought) (s .args .all) (s .args .allowance) (s .args .lent .now) (s .args .lent .now) (w .walk .result) (s .pre .whole)
-    (own-refused (treeAt (nodes (s .args .t .now)) (satisfied (s .args .t .now)) (s .args .sought) 0 (s .args .all)) (s .args .allowance) (s .args .lent .now) (w .walk .result) (w .walk .ensures)
+    whole-tree (s .args .t .now) (s .args .s .sought) (s .args .s .all) (s .args .s .allowance) (s .args .lent .now) (s .args .lent .now) (w .walk .result) (s .pre .whole)
+    (own-refused (treeAt (nodes (s .args .t .now)) (satisfied (s .args .t .now)) (s .args .s .sought) 0 (s .args .s .all)) (s .args .s .allowance) (s .args .lent .now) (w .walk .result) (w .walk .ensures)
     (refused (w .walk .result) (c .match .keys2)))
 
 returns-2 : tie.Need-returns-2
@@ -64,14 +64,14 @@ returns-2 c =
     let g = c .before .before in
     let w = g .before .before .before in
     let s = w .before .before .before .before .before in
-    whole-tree (s .args .t .now) (s .args .sought) (s .args .all) (s .args .allowance) (s .args .lent .now) (s .args .lent .now) (Short (g .walked .given .0 .0)) (s .pre .whole)
-    (own-short (treeAt (nodes (s .args .t .now)) (satisfied (s .args .t .now)) (s .args .sought) 0 (s .args .all)) (s .args .allowance) (s .args .lent .now) (w .walk .result) (w .walk .ensures)
+    whole-tree (s .args .t .now) (s .args .s .sought) (s .args .s .all) (s .args .s .allowance) (s .args .lent .now) (s .args .lent .now) (Short (g .walked .given .0 .0)) (s .pre .whole)
+    (own-short (treeAt (nodes (s .args .t .now)) (satisfied (s .args .t .now)) (s .args .s .sought) 0 (s .args .s .all)) (s .args .s .allowance) (s .args .lent .now) (w .walk .result) (w .walk .ensures)
     (g .walked .given .0 .0) (g .walked .given .0 .1 .0) (g .walked .given .1) (c .if1 .taken))
 
 walk-requires-2 : tie.Need-walk-requires-2
 walk-requires-2 c κs =
     let s = c .before .before .before .before .before .before .before .before .before .before .before .before in
-    from-start (s .args .t .now) (s .args .plan .now) (s .args .groups) (s .args .all) (s .pre)
+    from-start (s .args .t .now) (s .args .plan .now) (s .args .s .groups) (s .args .s .all) (s .pre)
 
 same-length : tie.Need-same-length
 same-length c = search needs
@@ -83,9 +83,9 @@ returns-3 c =
     let g = e .before .before in
     let w = g .before .before .before in
     let s = w .before .before .before .before .before in
-    whole-tree (s .args .t .now) (s .args .sought) (s .args .all) (s .args .allowance) (s .args .lent .now) (v .walk2 .last .1 .1 .1 .1 .1 .1 .1 .1 .1 .1 .0) (v .walk2 .result) (s .pre .whole)
-    (lent-walked (treeAt (nodes (s .args .t .now)) (satisfied (s .args .t .now)) (s .args .sought) 0 (s .args .all)) (s .args .allowance) (s .args .lent .now) (w .walk .result) (w .walk .ensures)
-    (g .walked .given .0 .0) (g .walked .given .0 .1 .0) (g .walked .given .1) (e .if1 .left) (v .walk2 .last .1 .1 .1 .1 .1 .1 .1 .1 .1 .1 .0) (v .walk2 .result) (v .walk2 .ensures))
+    whole-tree (s .args .t .now) (s .args .s .sought) (s .args .s .all) (s .args .s .allowance) (s .args .lent .now) (v .walk2 .last .1 .1 .1 .1 .1 .1 .1 .0) (v .walk2 .result) (s .pre .whole)
+    (lent-walked (treeAt (nodes (s .args .t .now)) (satisfied (s .args .t .now)) (s .args .s .sought) 0 (s .args .s .all)) (s .args .s .allowance) (s .args .lent .now) (w .walk .result) (w .walk .ensures)
+    (g .walked .given .0 .0) (g .walked .given .0 .1 .0) (g .walked .given .1) (e .if1 .left) (v .walk2 .last .1 .1 .1 .1 .1 .1 .1 .0) (v .walk2 .result) (v .walk2 .ensures))
 
 slice-aggregate-copy : tie.Need-slice-aggregate-copy
 slice-aggregate-copy c = search needs
@@ -104,8 +104,8 @@ returns-4 c =
     let g = e .before .before in
     let w = g .before .before .before in
     let s = w .before .before .before .before .before in
-    whole-tree (s .args .t .now) (s .args .sought) (s .args .all) (s .args .allowance) (s .args .lent .now) (v .copy .last .1 .0) (Sets (g .walked .given .0 .0) (g .walked .given .0 .1 .0)) (s .pre .whole)
-    (own-copied (treeAt (nodes (s .args .t .now)) (satisfied (s .args .t .now)) (s .args .sought) 0 (s .args .all)) (s .args .allowance) (s .args .lent .now) (w .walk .result) (w .walk .ensures)
+    whole-tree (s .args .t .now) (s .args .s .sought) (s .args .s .all) (s .args .s .allowance) (s .args .lent .now) (v .copy .last .1 .0) (Sets (g .walked .given .0 .0) (g .walked .given .0 .1 .0)) (s .pre .whole)
+    (own-copied (treeAt (nodes (s .args .t .now)) (satisfied (s .args .t .now)) (s .args .s .sought) 0 (s .args .s .all)) (s .args .s .allowance) (s .args .lent .now) (w .walk .result) (w .walk .ensures)
     (g .walked .given .0 .0) (g .walked .given .0 .1 .0) (g .walked .given .1) (e .if1 .left) refl (f .if2 .left) (v .copy .last .1 .0) (v .copy .ensures))
 
 pub fill-spec : {M : Type 1} → statement M

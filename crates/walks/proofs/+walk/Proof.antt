@@ -25,7 +25,7 @@ use Rattle.walks.proofs.+walk.Tie.{close}
 
 -- the open nodes fall
 abbrev μ-walk : Measures 3 walk-kinds.ps ℕ
-μ-walk κs a = size 64 (a .1 .1 .1 .1 .1 .1 .0)
+μ-walk κs a = size 64 (a .1 .1 .1 .1 .0)
 
 abbrev walk-at : ℕ → In 3 walk-kinds.ps
 walk-at t = and 3 walk-kinds.ps (is 3 walk-kinds.ps μ-walk t) walk.Pre
@@ -54,51 +54,51 @@ small : (t : ℕ) (c : walk-lts.Start (claims t) (walk-at t) walk.Post) → node
 small t c = sound-table (c .args .t .now) (c .pre .1 .visited .known .grouped .checked) .nodes-le
 
 abbrev tree-at : (t : ℕ) → walk-lts.Start (claims t) (walk-at t) walk.Post → Tree ℕ
-tree-at t s = treeAt (nodes (s .args .t .now)) (satisfied (s .args .t .now)) (s .args .sought) (s .args .c) (s .args .r)
+tree-at t s = treeAt (nodes (s .args .t .now)) (satisfied (s .args .t .now)) (s .args .s .sought) (s .args .c) (s .args .r)
 
 -- what looking has found
 abbrev comes : (t : ℕ) → walk-lts.After-look (claims t) (walk-at t) walk.Post → Step → Type 0
 comes t g =
-    let s = g .before .before .before .before .before in
-    Comes (nodes (s .args .t .now)) (satisfied (s .args .t .now)) (s .args .sought) (s .args .c) (s .args .r)
+    let s = g .before .before .before .before .before .before in
+    Comes (nodes (s .args .t .now)) (satisfied (s .args .t .now)) (s .args .s .sought) (s .args .c) (s .args .r)
 
 splits : (t : ℕ) (c : walk-lts.After-met (claims t) (walk-at t) walk.Post) →
-    let s = c .before .before .before .before .before .before .before in
-    Splits (nodes (s .args .t .now)) (satisfied (s .args .t .now)) (s .args .sought) (s .args .c) (s .args .r) (c .met .given .0 .0) (c .met .given .0 .1 .0)
+    let s = c .before .before .before .before .before .before .before .before in
+    Splits (nodes (s .args .t .now)) (satisfied (s .args .t .now)) (s .args .s .sought) (s .args .c) (s .args .r) (c .met .given .0 .0) (c .met .given .0 .1 .0)
 splits t c = subst (comes t (c .before .before)) (c .met .given .1) (c .before .before .look .ensures)
 
 -- the two visits below a split
 abbrev below-without : (t : ℕ) → walk-lts.After-without (claims t) (walk-at t) walk.Post → Tree ℕ
 below-without t w =
-    let s = w .before .before .before .before .before .before .before .before .before .before .before .before in
-    treeAt (nodes (s .args .t .now)) (satisfied (s .args .t .now)) (s .args .sought) (s .args .c) (w .without .result)
+    let s = w .before .before .before .before .before .before .before .before .before .before .before .before .before in
+    treeAt (nodes (s .args .t .now)) (satisfied (s .args .t .now)) (s .args .s .sought) (s .args .c) (w .without .result)
 
 abbrev below-with : (t : ℕ) → walk-lts.After-without (claims t) (walk-at t) walk.Post → Tree ℕ
 below-with t w =
-    let s = w .before .before .before .before .before .before .before .before .before .before .before .before in
-    treeAt (nodes (s .args .t .now)) (satisfied (s .args .t .now)) (s .args .sought) (s .args .c ∪ w .before .one .result) (w .without .result)
+    let s = w .before .before .before .before .before .before .before .before .before .before .before .before .before in
+    treeAt (nodes (s .args .t .now)) (satisfied (s .args .t .now)) (s .args .s .sought) (s .args .c ∪ w .before .one .result) (w .without .result)
 
 parted : (t : ℕ) (w : walk-lts.After-without (claims t) (walk-at t) walk.Post) →
-    let s = w .before .before .before .before .before .before .before .before .before .before .before .before in
-    Below (nodes (s .args .t .now)) (satisfied (s .args .t .now)) (s .args .sought) (s .args .c) (s .args .r) (w .before .one .result) (w .without .result)
+    let s = w .before .before .before .before .before .before .before .before .before .before .before .before .before in
+    Below (nodes (s .args .t .now)) (satisfied (s .args .t .now)) (s .args .s .sought) (s .args .c) (s .args .r) (w .before .one .result) (w .without .result)
 parted t w =
     let f = w .before .before in
     let m = f .before .before .before in
-    let s = m .before .before .before .before .before .before .before in
-    below (nodes (s .args .t .now)) (satisfied (s .args .t .now)) (s .args .sought) (s .args .c) (s .args .r) (m .met .given .0 .0) (m .met .given .0 .1 .0) (small t s) (splits t m) (f .before .if2 .left)
+    let s = m .before .before .before .before .before .before .before .before in
+    below (nodes (s .args .t .now)) (satisfied (s .args .t .now)) (s .args .s .sought) (s .args .c) (s .args .r) (m .met .given .0 .0) (m .met .given .0 .1 .0) (small t s) (splits t m) (f .before .if2 .left)
     (s .pre .1 .visited .known .chosen-in) (s .pre .1 .visited .open-in) (w .before .one .result) (w .without .result)
     (w .before .one .ensures ∙ ap (λ (x : ℕ). only x) (f .first .ensures .0)) (w .without .ensures)
 
 walk-returns : (t : ℕ) → walk-lts.Need-returns (claims t) (walk-at t) walk.Post
 walk-returns t c =
-    let s = c .before .before .before .before in
-    walk-spent (tree-at t s) (s .args .allowance) (s .args .spent) (s .args .found) (s .args .out .now) (c .if1 .taken)
+    let s = c .before .before .before .before .before in
+    walk-spent (tree-at t s) (s .args .s .allowance) (s .args .spent) (s .args .found) (s .args .out .now) (c .if1 .taken)
 
 walk-add-next : (t : ℕ) → walk-lts.Need-add-next (claims t) (walk-at t) walk.Post
 walk-add-next t c = omega arith
 
 walk-look-requires : (t : ℕ) → walk-lts.Need-look-requires (claims t) (walk-at t) walk.Post
-walk-look-requires t c κs = c .before .before .before .before .pre .1 .visited
+walk-look-requires t c κs = c .before .before .before .before .before .pre .1 .visited
 
 walk-enum-told : (t : ℕ) → walk-lts.Need-enum-told (claims t) (walk-at t) walk.Post
 walk-enum-told t c = search needs
@@ -109,10 +109,10 @@ walk-enum-told-2 t c = search needs
 walk-put-requires : (t : ℕ) → walk-lts.Need-put-requires (claims t) (walk-at t) walk.Post
 walk-put-requires t c κs = search needs
 
-walk-add-t26 : (t : ℕ) → walk-lts.Need-add-t26 (claims t) (walk-at t) walk.Post
-walk-add-t26 t c =
+walk-add-t24 : (t : ℕ) → walk-lts.Need-add-t24 (claims t) (walk-at t) walk.Post
+walk-add-t24 t c =
     let e = c .before .before .before .before .before .before .before in
-    let s = e .before .before .before .before in
+    let s = e .before .before .before .before .before in
     let f = s .pre .1 .fewer-found in
     let h = e .if1 .left in
     omega arith
@@ -124,8 +124,8 @@ walk-returns-2 : (t : ℕ) → walk-lts.Need-returns-2 (claims t) (walk-at t) wa
 walk-returns-2 t c =
     let m = c .before .before in
     let e = m .before .before .before in
-    let s = e .before .before .before .before in
-    walk-unsplit (tree-at t s) (s .args .allowance) (s .args .spent) (s .args .found) (s .args .out .now) (e .if1 .left) (splits t m .none (c .if2 .taken))
+    let s = e .before .before .before .before .before in
+    walk-unsplit (tree-at t s) (s .args .s .allowance) (s .args .spent) (s .args .found) (s .args .out .now) (e .if1 .left) (splits t m .none (c .if2 .taken))
 
 walk-first-requires : (t : ℕ) → walk-lts.Need-first-requires (claims t) (walk-at t) walk.Post
 walk-first-requires t c κs = search needs
@@ -133,9 +133,9 @@ walk-first-requires t c κs = search needs
 walk-one-requires : (t : ℕ) → walk-lts.Need-one-requires (claims t) (walk-at t) walk.Post
 walk-one-requires t c κs =
     let m = c .before .before .before in
-    let s = m .before .before .before .before .before .before .before in
+    let s = m .before .before .before .before .before .before .before .before in
     subst (λ (x : ℕ). x < 64) (sym (c .first .ensures .0))
-    (low-lt (nodes (s .args .t .now)) (satisfied (s .args .t .now)) (s .args .sought) (s .args .c) (s .args .r) (m .met .given .0 .0) (m .met .given .0 .1 .0) (small t s) (splits t m) (c .before .if2 .left))
+    (low-lt (nodes (s .args .t .now)) (satisfied (s .args .t .now)) (s .args .s .sought) (s .args .c) (s .args .r) (m .met .given .0 .0) (m .met .given .0 .1 .0) (small t s) (splits t m) (c .before .if2 .left))
 
 walk-without-requires : (t : ℕ) → walk-lts.Need-without-requires (claims t) (walk-at t) walk.Post
 walk-without-requires t c κs = search needs
@@ -143,7 +143,7 @@ walk-without-requires t c κs = search needs
 walk-walk-requires : (t : ℕ) → walk-lts.Need-walk-requires (claims t) (walk-at t) walk.Post
 walk-walk-requires t c κs =
     let w = c .before in
-    let s = w .before .before .before .before .before .before .before .before .before .before .before .before in
+    let s = w .before .before .before .before .before .before .before .before .before .before .before .before .before in
     let b = parted t w in
     let f = s .pre .1 .fewer-found in (
       subst (λ (x : ℕ). size 64 (w .without .result) < x) (s .pre .0) (b .fewer),
@@ -154,36 +154,36 @@ walk-enum-known-first : (t : ℕ) → walk-lts.Need-enum-known-first (claims t) 
 walk-enum-known-first t c = search needs
 
 walk-same-length : (t : ℕ) → walk-lts.Need-same-length (claims t) (walk-at t) walk.Post
-walk-same-length t c = c .before .before .before .walk .kept .1 .1 .1 .1 .1 .1 .1 .1 .1 .1 .0
+walk-same-length t c = c .before .before .before .walk .kept .1 .1 .1 .1 .1 .1 .1 .0
 
 walk-returns-3 : (t : ℕ) → walk-lts.Need-returns-3 (claims t) (walk-at t) walk.Post
 walk-returns-3 t c =
     let g = c .before .before .before in
     let w = g .before .before in
-    let s = w .before .before .before .before .before .before .before .before .before .before .before .before in
-    walk-first (tree-at t s) (s .args .allowance) (s .args .spent) (s .args .found) (s .args .out .now) (below-without t w) (below-with t w) (parted t w .parts)
-    (g .walk .last .1 .1 .1 .1 .1 .1 .1 .1 .1 .1 .0) (g .walk .result) (g .walk .ensures) (refused (g .walk .result) (c .match2 .keys2))
+    let s = w .before .before .before .before .before .before .before .before .before .before .before .before .before in
+    walk-first (tree-at t s) (s .args .s .allowance) (s .args .spent) (s .args .found) (s .args .out .now) (below-without t w) (below-with t w) (parted t w .parts)
+    (g .walk .last .1 .1 .1 .1 .1 .1 .1 .0) (g .walk .result) (g .walk .ensures) (refused (g .walk .result) (c .match2 .keys2))
 
 walk-walk-requires-2 : (t : ℕ) → walk-lts.Need-walk-requires-2 (claims t) (walk-at t) walk.Post
 walk-walk-requires-2 t c κs =
     let k = c .before .before in
     let g = k .before .before .before .before in
     let w = g .before .before in
-    let s = w .before .before .before .before .before .before .before .before .before .before .before .before in
+    let s = w .before .before .before .before .before .before .before .before .before .before .before .before .before in
     let b = parted t w in (
       subst (λ (x : ℕ). size 64 (w .without .result) < x) (s .pre .0) (b .fewer),
       record {
         visited = record { known = record { grouped = s .pre .1 .visited .known .grouped; whole = s .pre .1 .visited .known .whole; chosen-in = b .chosen-in }; open-in = b .rest-in };
-        fewer-found = still-fewer (tree-at t s) (s .args .allowance) (s .args .spent) (s .args .found) (s .args .out .now) (below-without t w) (below-with t w) (b .parts)
-            (g .walk .last .1 .1 .1 .1 .1 .1 .1 .1 .1 .1 .0) (g .walk .result) (k .first2 .given .0 .0) (k .first2 .given .0 .1 .0) (g .walk .ensures) (k .first2 .given .1) (s .pre .1 .fewer-found);
+        fewer-found = still-fewer (tree-at t s) (s .args .s .allowance) (s .args .spent) (s .args .found) (s .args .out .now) (below-without t w) (below-with t w) (b .parts)
+            (g .walk .last .1 .1 .1 .1 .1 .1 .1 .0) (g .walk .result) (k .first2 .given .0 .0) (k .first2 .given .0 .1 .0) (g .walk .ensures) (k .first2 .given .1) (s .pre .1 .fewer-found);
       },
     )
 
 walk-returns-4 : (t : ℕ) → walk-lts.Need-returns-4 (claims t) (walk-at t) walk.Post
 walk-returns-4 t c =
     let g = c .before .before in
-    let s = g .before .before .before .before .before in
-    walk-leaf (tree-at t s) (s .args .allowance) (s .args .spent) (s .args .found) (s .args .out .now) (g .before .if1 .left) (subst (comes t g) (c .enum-told .given .1) (g .look .ensures))
+    let s = g .before .before .before .before .before .before in
+    walk-leaf (tree-at t s) (s .args .s .allowance) (s .args .spent) (s .args .found) (s .args .out .now) (g .before .if1 .left) (subst (comes t g) (c .enum-told .given .1) (g .look .ensures))
 
 walk-same-length-2 : (t : ℕ) → walk-lts.Need-same-length-2 (claims t) (walk-at t) walk.Post
 walk-same-length-2 t c = c .before .before .put .kept .0
@@ -193,11 +193,11 @@ walk-returns-5 t c =
     let q = c .before .before in
     let m = q .before .before in
     let g = m .before .before in
-    let s = g .before .before .before .before .before in
-    walk-found (tree-at t s) (s .args .allowance) (s .args .spent) (s .args .found) (s .args .out .now) (g .before .if1 .left) (s .args .c) (q .put .last .0) (subst (comes t g) (m .enum-told2 .given .1) (g .look .ensures)) (q .put .ensures)
+    let s = g .before .before .before .before .before .before in
+    walk-found (tree-at t s) (s .args .s .allowance) (s .args .spent) (s .args .found) (s .args .out .now) (g .before .if1 .left) (s .args .c) (q .put .last .0) (subst (comes t g) (m .enum-told2 .given .1) (g .look .ensures)) (q .put .ensures)
 
 walk-same-length-3 : (t : ℕ) → walk-lts.Need-same-length-3 (claims t) (walk-at t) walk.Post
-walk-same-length-3 t c = c .before .before .walk2 .kept .1 .1 .1 .1 .1 .1 .1 .1 .1 .1 .0 ∙ c .before .before .before .before .before .before .before .before .before .walk .kept .1 .1 .1 .1 .1 .1 .1 .1 .1 .1 .0
+walk-same-length-3 t c = c .before .before .walk2 .kept .1 .1 .1 .1 .1 .1 .1 .0 ∙ c .before .before .before .before .before .before .before .before .before .walk .kept .1 .1 .1 .1 .1 .1 .1 .0
 
 walk-returns-6 : (t : ℕ) → walk-lts.Need-returns-6 (claims t) (walk-at t) walk.Post
 walk-returns-6 t c =
@@ -205,10 +205,10 @@ walk-returns-6 t c =
     let k = h .before .before .before in
     let g = k .before .before .before .before in
     let w = g .before .before in
-    let s = w .before .before .before .before .before .before .before .before .before .before .before .before in
-    walk-second (tree-at t s) (s .args .allowance) (s .args .spent) (s .args .found) (s .args .out .now) (below-without t w) (below-with t w) (parted t w .parts)
-    (g .walk .last .1 .1 .1 .1 .1 .1 .1 .1 .1 .1 .0) (g .walk .result) (k .first2 .given .0 .0) (k .first2 .given .0 .1 .0) (g .walk .ensures) (k .first2 .given .1)
-    (h .walk2 .last .1 .1 .1 .1 .1 .1 .1 .1 .1 .1 .0) (h .walk2 .result) (h .walk2 .ensures)
+    let s = w .before .before .before .before .before .before .before .before .before .before .before .before .before in
+    walk-second (tree-at t s) (s .args .s .allowance) (s .args .spent) (s .args .found) (s .args .out .now) (below-without t w) (below-with t w) (parted t w .parts)
+    (g .walk .last .1 .1 .1 .1 .1 .1 .1 .0) (g .walk .result) (k .first2 .given .0 .0) (k .first2 .given .0 .1 .0) (g .walk .ensures) (k .first2 .given .1)
+    (h .walk2 .last .1 .1 .1 .1 .1 .1 .1 .0) (h .walk2 .result) (h .walk2 .ensures)
 
 pub +walk-spec : {M : Type 1} → statement M
 +walk-spec =
@@ -224,7 +224,7 @@ pub +walk-spec : {M : Type 1} → statement M
     (walk-enum-told t)
     (walk-enum-told-2 t)
     (walk-put-requires t)
-    (walk-add-t26 t)
+    (walk-add-t24 t)
     (walk-enum-known-met t)
     (walk-returns-2 t)
     (walk-first-requires t)
