@@ -3,8 +3,12 @@
 ghost use mathlib.Core.List.{[], _∷_};
 ghost use Rattle.meanings.specs.Replies.{reply, _is_, Place, Nodes, Records, Answer, Set, Rounds, First, Second, Count, Visits};
 ghost use Rattle.answers.specs.Said.{faultSays, checkedSays, readSays, wroteSays, judgedSays, greatestSays, verdictSays, listedSays, intactSays};
-ghost use Rattle.meanings.specs.Questions.{checkReply, quorumReply, greatestReply, blocksReply, verdictReply, intactReply};
-ghost use Rattle.doors.specs.Doors.{Shows};
+ghost use Rattle.meanings.specs.Questions.{checkReply, quorumReply, greatestReply, blocksReply, verdictReply, minimalReply, blockingReply, intactReply, listPuts};
+ghost use lib.ListN.{length};
+ghost use Rattle.meanings.specs.Table.{nodes as nodesOf, satisfied};
+ghost use Rattle.meanings.specs.Trees.{list, minimalTree, blockingTree};
+ghost use Rattle.sheets.specs.Sheets.{sheetText, readReply, readPuts, writeReply};
+ghost use Rattle.doors.specs.Doors.{Shows, Fills};
 use answers::Checked;
 use answers::Fault;
 use answers::Greatest;
@@ -425,4 +429,36 @@ pub extern "C" fn breezedrum_intact(table: &[u64], ill: u64, allowance: u64) -> 
     ensures { λ r. ⌜ Shows r (intactReply (now (table .entry)) ill allowance) ⌝ }
 {
     of_intact(intact::intact_nodes(table, ill, allowance))
+}
+
+// Reads a sheet into a lent list of words.
+#[no_mangle]
+pub extern "C" fn breezedrum_read_sheet(sheet: &[u8], table: &mut [u64]) -> Reply
+    ensures { λ r. ⌜ Fills r (readReply (now (sheet .entry)) (length (now (table .entry)))) (readPuts (now (sheet .entry))) (now (table .entry)) (now (table .exit)) ⌝ }
+{
+    of_read(sheets::read_sheet(sheet, table))
+}
+
+// Writes a table as a sheet into a lent buffer of bytes.
+#[no_mangle]
+pub extern "C" fn breezedrum_write_sheet(table: &[u64], sheet: &mut [u8]) -> Reply
+    ensures { λ r. ⌜ Fills r (writeReply (now (table .entry)) (length (now (sheet .entry)))) (sheetText (now (table .entry))) (now (sheet .entry)) (now (sheet .exit)) ⌝ }
+{
+    of_wrote(sheets::write_sheet(table, sheet))
+}
+
+// The minimal quorums, in the listing order, into a lent list of words.
+#[no_mangle]
+pub extern "C" fn breezedrum_minimal(table: &[u64], allowance: u64, sets: &mut [u64]) -> Reply
+    ensures { λ r. ⌜ Fills r (minimalReply (now (table .entry)) allowance (length (now (sets .entry)))) (listPuts (list (minimalTree (nodesOf (now (table .entry))) (satisfied (now (table .entry)))))) (now (sets .entry)) (now (sets .exit)) ⌝ }
+{
+    of_listed(lists::minimal_quorums(table, allowance, sets))
+}
+
+// The minimal blocking sets, in the listing order, into a lent list of words.
+#[no_mangle]
+pub extern "C" fn breezedrum_blocking(table: &[u64], allowance: u64, sets: &mut [u64]) -> Reply
+    ensures { λ r. ⌜ Fills r (blockingReply (now (table .entry)) allowance (length (now (sets .entry)))) (listPuts (list (blockingTree (nodesOf (now (table .entry))) (satisfied (now (table .entry)))))) (now (sets .entry)) (now (sets .exit)) ⌝ }
+{
+    of_listed(lists::blocking_sets(table, allowance, sets))
 }

@@ -1,0 +1,28 @@
+-- The struct shows what the operation's answer says, and the buffer is as the operation leaves it.
+use mathlib.Core.Path.{subst}
+use Rattle.doors.specs.Doors.{Shows, Fills}
+use borrow.Author.Needs.{needs}
+use Rattle.doors.proofs.breezedrum_blocking.Statement.{statement}
+use Rattle.doors.proofs.breezedrum_blocking.Tie as tie
+use Rattle.doors.proofs.breezedrum_blocking.Reads as reads
+use Rattle.doors.proofs.breezedrum_blocking.Lts as lts
+use Rattle.doors.proofs.of_listed.Reads as of-listed-reads
+use Rattle.lists.proofs.blocking_sets.Reads as blocking-sets-reads
+
+blocking-sets-requires : tie.Need-blocking-sets-requires
+blocking-sets-requires c κs = search needs
+
+of-listed-requires : tie.Need-of-listed-requires
+of-listed-requires c κs = search needs
+
+same-length : tie.Need-same-length
+same-length c = search needs
+
+returns : tie.Need-returns
+returns c =
+    let e = c .before .before .before .blocking-sets .ensures in
+    record { shows = subst (Shows (c .of-listed .result)) (e .answers) (c .of-listed .ensures); holds = e .lent }
+
+pub breezedrum-blocking-spec : {M : Type 1} → statement M
+breezedrum-blocking-spec =
+    tie.close (tie.spec blocking-sets-requires of-listed-requires same-length returns)

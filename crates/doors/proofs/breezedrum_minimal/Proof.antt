@@ -1,0 +1,28 @@
+-- The struct shows what the operation's answer says, and the buffer is as the operation leaves it.
+use mathlib.Core.Path.{subst}
+use Rattle.doors.specs.Doors.{Shows, Fills}
+use borrow.Author.Needs.{needs}
+use Rattle.doors.proofs.breezedrum_minimal.Statement.{statement}
+use Rattle.doors.proofs.breezedrum_minimal.Tie as tie
+use Rattle.doors.proofs.breezedrum_minimal.Reads as reads
+use Rattle.doors.proofs.breezedrum_minimal.Lts as lts
+use Rattle.doors.proofs.of_listed.Reads as of-listed-reads
+use Rattle.lists.proofs.minimal_quorums.Reads as minimal-quorums-reads
+
+minimal-quorums-requires : tie.Need-minimal-quorums-requires
+minimal-quorums-requires c κs = search needs
+
+of-listed-requires : tie.Need-of-listed-requires
+of-listed-requires c κs = search needs
+
+same-length : tie.Need-same-length
+same-length c = search needs
+
+returns : tie.Need-returns
+returns c =
+    let e = c .before .before .before .minimal-quorums .ensures in
+    record { shows = subst (Shows (c .of-listed .result)) (e .answers) (c .of-listed .ensures); holds = e .lent }
+
+pub breezedrum-minimal-spec : {M : Type 1} → statement M
+breezedrum-minimal-spec =
+    tie.close (tie.spec minimal-quorums-requires of-listed-requires same-length returns)

@@ -1,0 +1,28 @@
+-- The struct shows what the operation's answer says, and the buffer is as the operation leaves it.
+use mathlib.Core.Path.{subst}
+use Rattle.doors.specs.Doors.{Shows, Fills}
+use borrow.Author.Needs.{needs}
+use Rattle.doors.proofs.breezedrum_read_sheet.Statement.{statement}
+use Rattle.doors.proofs.breezedrum_read_sheet.Tie as tie
+use Rattle.doors.proofs.breezedrum_read_sheet.Reads as reads
+use Rattle.doors.proofs.breezedrum_read_sheet.Lts as lts
+use Rattle.doors.proofs.of_read.Reads as of-read-reads
+use Rattle.sheets.proofs.read_sheet.Reads as read-sheet-reads
+
+read-sheet-requires : tie.Need-read-sheet-requires
+read-sheet-requires c κs = search needs
+
+of-read-requires : tie.Need-of-read-requires
+of-read-requires c κs = search needs
+
+same-length : tie.Need-same-length
+same-length c = search needs
+
+returns : tie.Need-returns
+returns c =
+    let e = c .before .before .before .read-sheet .ensures in
+    record { shows = subst (Shows (c .of-read .result)) (e .says) (c .of-read .ensures); holds = e .holds }
+
+pub breezedrum-read-sheet-spec : {M : Type 1} → statement M
+breezedrum-read-sheet-spec =
+    tie.close (tie.spec read-sheet-requires of-read-requires same-length returns)

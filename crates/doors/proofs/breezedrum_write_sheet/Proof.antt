@@ -1,0 +1,28 @@
+-- The struct shows what the operation's answer says, and the buffer is as the operation leaves it.
+use mathlib.Core.Path.{subst}
+use Rattle.doors.specs.Doors.{Shows, Fills}
+use borrow.Author.Needs.{needs}
+use Rattle.doors.proofs.breezedrum_write_sheet.Statement.{statement}
+use Rattle.doors.proofs.breezedrum_write_sheet.Tie as tie
+use Rattle.doors.proofs.breezedrum_write_sheet.Reads as reads
+use Rattle.doors.proofs.breezedrum_write_sheet.Lts as lts
+use Rattle.doors.proofs.of_wrote.Reads as of-wrote-reads
+use Rattle.sheets.proofs.write_sheet.Reads as write-sheet-reads
+
+write-sheet-requires : tie.Need-write-sheet-requires
+write-sheet-requires c κs = search needs
+
+of-wrote-requires : tie.Need-of-wrote-requires
+of-wrote-requires c κs = search needs
+
+same-length : tie.Need-same-length
+same-length c = search needs
+
+returns : tie.Need-returns
+returns c =
+    let e = c .before .before .before .write-sheet .ensures in
+    record { shows = subst (Shows (c .of-wrote .result)) (e .says) (c .of-wrote .ensures); holds = e .holds }
+
+pub breezedrum-write-sheet-spec : {M : Type 1} → statement M
+breezedrum-write-sheet-spec =
+    tie.close (tie.spec write-sheet-requires of-wrote-requires same-length returns)
