@@ -1,0 +1,99 @@
+-- Each part goes right behind those before it.
+use borrow.Author.Needs.{needs}
+use native.Mathlib.Omega.{arith}
+use Prim.Native.Nat.{_+_, _-_, _≤_}
+use mathlib.Core.List.{[], _∷_, _++_, append-assoc}
+use mathlib.Core.Path.{ap, sym}
+use denote.Ref.{now}
+use lib.ListN.{length, length-append}
+use borrow.Rule.Slice.PartMut.{putMid}
+use Rattle.decimal.specs.Bytes.{Written}
+use Rattle.decimal.specs.Decimal.{numeral}
+use Rattle.decimal.proofs.Place.{within, room, next}
+use Rattle.members.specs.Members.{memberText}
+use Rattle.lines.specs.Lines.{fieldText, lastText}
+use Rattle.report.specs.Fields.{tabbed, ended, numbered}
+use Rattle.report.specs.Words as word
+use Rattle.report.specs.Report.{row}
+use Rattle.report.proofs.Rows.{both, two, three, row-word, row-field, row-numbered, row-end, row-set, row-pair}
+use Rattle.report.proofs.list_line.Statement.{statement}
+use Rattle.report.proofs.list_line.Tie as tie
+
+-- the three texts have room
+all-fit : (c : tie.Start) → let a = c .args in length ((numbered (now (a .name)) (a .number)) ++ ((fieldText (a .count)) ++ (ended (numeral (a .visits))))) ≤ length (now (a .out))
+all-fit c = let a = c .args in rw (row-numbered (now (a .name)) (a .number) (numeral (a .count)) (numeral (a .visits) ∷ []), row-field (a .count) (numeral (a .visits)) [], row-end (numeral (a .visits))) at (c .pre)
+
+fits : (c : tie.Start) → let a = c .args in length (numbered (now (a .name)) (a .number)) + length (fieldText (a .count)) ≤ length (now (a .out))
+fits c = let a = c .args in two (numbered (now (a .name)) (a .number)) (fieldText (a .count)) (ended (numeral (a .visits))) (now (a .out)) (all-fit c)
+
+last-fits : (c : tie.Start) → let a = c .args in length ((numbered (now (a .name)) (a .number)) ++ (fieldText (a .count))) + length (ended (numeral (a .visits))) ≤ length (now (a .out))
+last-fits c = let a = c .args in three (numbered (now (a .name)) (a .number)) (fieldText (a .count)) (ended (numeral (a .visits))) (now (a .out)) (all-fit c)
+
+second : (c : tie.After-put-field) →
+    let f = c .before .before .before .before in
+    let a = f .before .before .before .before .args in
+    let at = f .put-numbered .result in
+    let o = f .put-numbered .last .0 in
+    Written ((numbered (now (a .name)) (a .number)) ++ (fieldText (a .count))) (now (a .out)) (putMid at (length o - at) o (c .put-field .last .0)) (at + c .put-field .result)
+second c =
+    let f = c .before .before .before .before in
+    let s = f .before .before .before .before in
+    let a = s .args in
+    next _ _ _ _ (f .put-numbered .ensures) (fieldText (a .count)) (fits s) _ _ (c .put-field .ensures)
+
+third : (c : tie.After-put-end) →
+    let g = c .before .before .before .before in
+    let f = g .before .before .before .before in
+    let a = f .before .before .before .before .args in
+    let at₁ = f .put-numbered .result in
+    let o₁ = f .put-numbered .last .0 in
+    let at = at₁ + g .put-field .result in
+    let o = putMid at₁ (length o₁ - at₁) o₁ (g .put-field .last .0) in
+    Written (((numbered (now (a .name)) (a .number)) ++ (fieldText (a .count))) ++ (ended (numeral (a .visits)))) (now (a .out)) (putMid at (length o - at) o (c .put-end .last .0)) (at + c .put-end .result)
+third c =
+    let g = c .before .before .before .before in
+    let s = g .before .before .before .before .before .before .before .before in
+    let a = s .args in
+    next _ _ _ _ (second g) (ended (numeral (a .visits))) (last-fits s) _ _ (c .put-end .ensures)
+
+put-numbered-requires : tie.Need-put-numbered-requires
+put-numbered-requires c κs = let s = c .before .before .before in omega (arith, fits s)
+
+sub-put-field : tie.Need-sub-put-field
+sub-put-field c = let f = c .before .before in let s = f .before .before .before .before in let a = s .args in within _ _ _ _ (f .put-numbered .ensures) (fieldText (a .count)) (fits s)
+
+part-put-field-start : tie.Need-part-put-field-start
+part-put-field-start c = let f = c .before .before in let s = f .before .before .before .before in let a = s .args in within _ _ _ _ (f .put-numbered .ensures) (fieldText (a .count)) (fits s)
+
+part-put-field-end : tie.Need-part-put-field-end
+part-put-field-end c = search needs
+
+put-field-requires : tie.Need-put-field-requires
+put-field-requires c κs = let f = c .before .before .before in let s = f .before .before .before .before in let a = s .args in room _ _ _ _ (f .put-numbered .ensures) (fieldText (a .count)) (fits s)
+
+add-b : tie.Need-add-b
+add-b c = let g = c .before .before in let s = g .before .before .before .before .before .before .before .before in let a = s .args in omega (arith, second g .count, fits s, length-append (numbered (now (a .name)) (a .number)) (fieldText (a .count)))
+
+sub-put-end : tie.Need-sub-put-end
+sub-put-end c = let g = c .before .before in let s = g .before .before .before .before .before .before .before .before in let a = s .args in within _ _ _ _ (second g) (ended (numeral (a .visits))) (last-fits s)
+
+part-put-end-start : tie.Need-part-put-end-start
+part-put-end-start c = let g = c .before .before in let s = g .before .before .before .before .before .before .before .before in let a = s .args in within _ _ _ _ (second g) (ended (numeral (a .visits))) (last-fits s)
+
+part-put-end-end : tie.Need-part-put-end-end
+part-put-end-end c = search needs
+
+put-end-requires : tie.Need-put-end-requires
+put-end-requires c κs = let g = c .before .before .before in let s = g .before .before .before .before .before .before .before .before in let a = s .args in room _ _ _ _ (second g) (ended (numeral (a .visits))) (last-fits s)
+
+add-result : tie.Need-add-result
+add-result c = let p = c .before .before in let s = p .before .before .before .before .before .before .before .before .before .before .before .before in let a = s .args in omega (arith, third p .count, last-fits s, length-append ((numbered (now (a .name)) (a .number)) ++ (fieldText (a .count))) (ended (numeral (a .visits))))
+
+same-length : tie.Need-same-length
+same-length c = search needs
+
+returns : tie.Need-returns
+returns c = let p = c .before .before in let a = p .before .before .before .before .before .before .before .before .before .before .before .before .args in rw (row-numbered (now (a .name)) (a .number) (numeral (a .count)) (numeral (a .visits) ∷ []), row-field (a .count) (numeral (a .visits)) [], row-end (numeral (a .visits)), ← append-assoc (numbered (now (a .name)) (a .number)) (fieldText (a .count)) (ended (numeral (a .visits)))) (third p)
+
+pub list-line-spec : {M : Type 1} → statement M
+list-line-spec = tie.close (tie.spec put-numbered-requires sub-put-field part-put-field-start part-put-field-end put-field-requires add-b sub-put-end part-put-end-start part-put-end-end put-end-requires add-result same-length returns)

@@ -1,0 +1,39 @@
+-- The report's fixed words, byte by byte.
+use Prim.Native.Nat.{ℕ}
+use mathlib.Core.List.{List, [], _∷_}
+
+abbrev pub refused : List ℕ
+refused = 114 ∷ 101 ∷ 102 ∷ 117 ∷ 115 ∷ 101 ∷ 100 ∷ []
+
+abbrev pub nodes : List ℕ
+nodes = 110 ∷ 111 ∷ 100 ∷ 101 ∷ 115 ∷ []
+
+abbrev pub sets : List ℕ
+sets = 115 ∷ 101 ∷ 116 ∷ 115 ∷ []
+
+abbrev pub verdict : List ℕ
+verdict = 118 ∷ 101 ∷ 114 ∷ 100 ∷ 105 ∷ 99 ∷ 116 ∷ []
+
+abbrev pub minimal : List ℕ
+minimal = 109 ∷ 105 ∷ 110 ∷ 105 ∷ 109 ∷ 97 ∷ 108 ∷ []
+
+abbrev pub blocking : List ℕ
+blocking = 98 ∷ 108 ∷ 111 ∷ 99 ∷ 107 ∷ 105 ∷ 110 ∷ 103 ∷ []
+
+abbrev pub yes : List ℕ
+yes = 121 ∷ 101 ∷ 115 ∷ []
+
+abbrev pub no : List ℕ
+no = 110 ∷ 111 ∷ []
+
+-- `-`: where there is no answer
+abbrev pub none : List ℕ
+none = 45 ∷ []
+
+-- `q`: a minimal quorum
+abbrev pub q : List ℕ
+q = 113 ∷ []
+
+-- `b`: a minimal blocking set
+abbrev pub b : List ℕ
+b = 98 ∷ []

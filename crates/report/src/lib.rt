@@ -1,0 +1,187 @@
+// The lines of the report (document 01, 'The report program'), each written into a lent buffer that has room for the longest.
+// A line is what an answer says: its number, and its values with 0 for what is not named.
+ghost use mathlib.Core.Path.{_≡_};
+ghost use Prim.Native.Nat.{_≤_};
+ghost use mathlib.Core.List.{[], _∷_, _++_};
+ghost use lib.ListN.{length};
+ghost use Rattle.decimal.specs.Decimal.{numeral};
+ghost use Rattle.decimal.specs.Bytes.{Written};
+ghost use Rattle.members.specs.Members.{memberText};
+ghost use Rattle.answers.specs.Said.{faultSays, readSays, checkedSays, verdictSays, listedSays};
+ghost use Rattle.lines.specs.Lines.{lastText};
+ghost use Rattle.meanings.specs.Replies.{value, Place};
+ghost use Rattle.report.specs.Words.{refused, nodes as nodesWord, sets, verdict};
+ghost use Rattle.report.specs.Fields.{tabbed, ended, numbered};
+ghost use Rattle.report.specs.Report.{row, refusedLine, nodesLine, verdictLine, listLine, setLine};
+use answers::Checked;
+use answers::Fault;
+use answers::Listed;
+use answers::Read;
+use answers::Verdict;
+
+// A word and the tab behind it.
+fn put_word(out: &mut [u8], w: &[u8]) -> usize
+    requires { ⌜ length (tabbed (now w)) ≤ length (now out) ⌝ }
+    ensures { λ r. ⌜ Written (tabbed (now (w .entry))) (now (out .entry)) (now (out .exit)) r ⌝ }
+{
+    let k = bytes::copy(w, out);
+    out[k] = 9;
+    k + 1
+}
+
+// A number that ends its line.
+fn put_end(out: &mut [u8], n: u64) -> usize
+    requires { ⌜ length (ended (numeral n)) ≤ length (now out) ⌝ }
+    ensures { λ r. ⌜ Written (ended (numeral n)) (now (out .entry)) (now (out .exit)) r ⌝ }
+{
+    let k = decimal::put_number(out, n);
+    out[k] = 10;
+    k + 1
+}
+
+// A set and the tab behind it.
+fn put_set(out: &mut [u8], m: u64) -> usize
+    requires { ⌜ length (tabbed (memberText m)) ≤ length (now out) ⌝ }
+    ensures { λ r. ⌜ Written (tabbed (memberText m)) (now (out .entry)) (now (out .exit)) r ⌝ }
+{
+    let k = members::put_members(out, m);
+    out[k] = 9;
+    k + 1
+}
+
+// A word and a number, each with the tab behind it.
+fn put_numbered(out: &mut [u8], w: &[u8], n: u64) -> usize
+    requires { ⌜ length (numbered (now w) n) ≤ length (now out) ⌝ }
+    ensures { λ r. ⌜ Written (numbered (now (w .entry)) n) (now (out .entry)) (now (out .exit)) r ⌝ }
+{
+    let a = put_word(out, w);
+    a + lines::put_field(&mut out[a..], n)
+}
+
+// Two sets, which end their line.
+fn put_pair(out: &mut [u8], first: u64, second: u64) -> usize
+    requires { ⌜ length (tabbed (memberText first) ++ lastText second) ≤ length (now out) ⌝ }
+    ensures { λ r. ⌜ Written (tabbed (memberText first) ++ lastText second) (now (out .entry)) (now (out .exit)) r ⌝ }
+{
+    let a = put_set(out, first);
+    a + lines::put_last(&mut out[a..], second)
+}
+
+fn refused_line(out: &mut [u8], number: u64, place: u64) -> usize
+    requires { ⌜ length (row (refused ∷ numeral number ∷ numeral place ∷ [])) ≤ length (now out) ⌝ }
+    ensures { λ r. ⌜ Written (row (refused ∷ numeral number ∷ numeral place ∷ [])) (now (out .entry)) (now (out .exit)) r ⌝ }
+{
+    let a = put_numbered(out, b"refused", number);
+    a + put_end(&mut out[a..], place)
+}
+
+fn nodes_line(out: &mut [u8], nodes: u64, records: u64) -> usize
+    requires { ⌜ length (row (nodesWord ∷ numeral nodes ∷ sets ∷ numeral records ∷ [])) ≤ length (now out) ⌝ }
+    ensures { λ r. ⌜ Written (row (nodesWord ∷ numeral nodes ∷ sets ∷ numeral records ∷ [])) (now (out .entry)) (now (out .exit)) r ⌝ }
+{
+    let a = put_numbered(out, b"nodes", nodes);
+    let b = a + put_word(&mut out[a..], b"sets");
+    b + put_end(&mut out[b..], records)
+}
+
+fn verdict_line(
+    out: &mut [u8],
+    number: u64,
+    answer: &[u8],
+    visits: u64,
+    first: u64,
+    second: u64,
+) -> usize
+    requires { ⌜ length (row (verdict ∷ numeral number ∷ now answer ∷ numeral visits ∷ memberText first ∷ memberText second ∷ [])) ≤ length (now out) ⌝ }
+    ensures { λ r. ⌜ Written (row (verdict ∷ numeral number ∷ now (answer .entry) ∷ numeral visits ∷ memberText first ∷ memberText second ∷ [])) (now (out .entry)) (now (out .exit)) r ⌝ }
+{
+    let a = put_numbered(out, b"verdict", number);
+    let b = a + put_numbered(&mut out[a..], answer, visits);
+    b + put_pair(&mut out[b..], first, second)
+}
+
+fn list_line(out: &mut [u8], name: &[u8], number: u64, count: u64, visits: u64) -> usize
+    requires { ⌜ length (row (now name ∷ numeral number ∷ numeral count ∷ numeral visits ∷ [])) ≤ length (now out) ⌝ }
+    ensures { λ r. ⌜ Written (row (now (name .entry) ∷ numeral number ∷ numeral count ∷ numeral visits ∷ [])) (now (out .entry)) (now (out .exit)) r ⌝ }
+{
+    let a = put_numbered(out, name, number);
+    let b = a + lines::put_field(&mut out[a..], count);
+    b + put_end(&mut out[b..], visits)
+}
+
+fn set_line(out: &mut [u8], letter: &[u8], set: u64) -> usize
+    requires { ⌜ length (row (now letter ∷ memberText set ∷ [])) ≤ length (now out) ⌝ }
+    ensures { λ r. ⌜ Written (row (now (letter .entry) ∷ memberText set ∷ [])) (now (out .entry)) (now (out .exit)) r ⌝ }
+{
+    let a = put_word(out, letter);
+    a + lines::put_last(&mut out[a..], set)
+}
+
+// Numbers 1 to 7.
+fn fault_number(f: Fault) -> u64
+    ensures { λ r. ⌜ r ≡ faultSays f .number ⌝ }
+{
+    match f {
+        Fault::Count(_) => 1,
+        Fault::Control(_) => 2,
+        Fault::Level(_) => 3,
+        Fault::Nodes(_) => 4,
+        Fault::Threshold(_) => 5,
+        Fault::Member(_) => 6,
+        Fault::Entries(_) => 7,
+    }
+}
+
+fn fault_place(f: Fault) -> u64
+    ensures { λ r. ⌜ r ≡ value (faultSays f) Place ⌝ }
+{
+    match f {
+        Fault::Count(p) => p,
+        Fault::Control(p) => p,
+        Fault::Level(p) => p,
+        Fault::Nodes(p) => p,
+        Fault::Threshold(p) => p,
+        Fault::Member(p) => p,
+        Fault::Entries(p) => p,
+    }
+}
+
+// A sheet is turned away.
+pub fn put_refused(out: &mut [u8; 512], r: Read) -> usize
+    ensures { λ k. ⌜ Written (refusedLine (readSays r)) (now (out .entry)) (now (out .exit)) k ⌝ }
+{
+    match r {
+        Read::Words { count: _ } => refused_line(out, 0, 0),
+        Read::Short { count: _ } => refused_line(out, 10, 0),
+        Read::Malformed { line } => refused_line(out, 12, line),
+        Read::Bad(f) => refused_line(out, fault_number(f), fault_place(f)),
+    }
+}
+
+// The nodes and records of a table that was checked.
+pub fn put_nodes(out: &mut [u8; 512], c: Checked) -> usize
+    ensures { λ k. ⌜ Written (nodesLine (checkedSays c)) (now (out .entry)) (now (out .exit)) k ⌝ }
+{
+    match c {
+        Checked::Sound { nodes, records } => nodes_line(out, nodes, records),
+        Checked::Bad(_) => nodes_line(out, 0, 0),
+    }
+}
+
+// Do all quorums intersect? A pair is there only with `no`.
+pub fn put_verdict(out: &mut [u8; 512], v: Verdict) -> usize
+    ensures { λ k. ⌜ Written (verdictLine (verdictSays v)) (now (out .entry)) (now (out .exit)) k ⌝ }
+{
+    match v {
+        Verdict::Yes { visits } => verdict_line(out, 0, b"yes", visits, 0, 0),
+        Verdict::No {
+            first,
+            second,
+            visits,
+        } => verdict_line(out, 0, b"no", visits, first, second),
+        Verdict::Spent { visits } => verdict_line(out, 9, b"-", visits, 0, 0),
+        Verdict::Unsplit => verdict_line(out, 13, b"-", 0, 0, 0),
+        Verdict::Outside => verdict_line(out, 8, b"-", 0, 0, 0),
+        Verdict::Bad(f) => verdict_line(out, fault_number(f), b"-", 0, 0, 0),
+    }
+}
