@@ -10,7 +10,7 @@ ghost use Rattle.members.specs.Members.{memberText};
 ghost use Rattle.answers.specs.Said.{faultSays, readSays, checkedSays, verdictSays, listedSays};
 ghost use Rattle.lines.specs.Lines.{lastText};
 ghost use Rattle.meanings.specs.Replies.{value, Place};
-ghost use Rattle.report.specs.Words.{refused, nodes as nodesWord, sets, verdict};
+ghost use Rattle.report.specs.Words.{refused, nodes as nodesWord, sets, verdict, minimal, blocking, q, b};
 ghost use Rattle.report.specs.Fields.{tabbed, ended, numbered};
 ghost use Rattle.report.specs.Report.{row, refusedLine, nodesLine, verdictLine, listLine, setLine};
 use answers::Checked;
@@ -146,6 +146,16 @@ fn fault_place(f: Fault) -> u64
     }
 }
 
+// The nodes and records of a table that was checked.
+pub fn put_nodes(out: &mut [u8; 512], c: Checked) -> usize
+    ensures { λ k. ⌜ Written (nodesLine (checkedSays c)) (now (out .entry)) (now (out .exit)) k ⌝ }
+{
+    match c {
+        Checked::Sound { nodes, records } => nodes_line(out, nodes, records),
+        Checked::Bad(_) => nodes_line(out, 0, 0),
+    }
+}
+
 // A sheet is turned away.
 pub fn put_refused(out: &mut [u8; 512], r: Read) -> usize
     ensures { λ k. ⌜ Written (refusedLine (readSays r)) (now (out .entry)) (now (out .exit)) k ⌝ }
@@ -155,16 +165,6 @@ pub fn put_refused(out: &mut [u8; 512], r: Read) -> usize
         Read::Short { count: _ } => refused_line(out, 10, 0),
         Read::Malformed { line } => refused_line(out, 12, line),
         Read::Bad(f) => refused_line(out, fault_number(f), fault_place(f)),
-    }
-}
-
-// The nodes and records of a table that was checked.
-pub fn put_nodes(out: &mut [u8; 512], c: Checked) -> usize
-    ensures { λ k. ⌜ Written (nodesLine (checkedSays c)) (now (out .entry)) (now (out .exit)) k ⌝ }
-{
-    match c {
-        Checked::Sound { nodes, records } => nodes_line(out, nodes, records),
-        Checked::Bad(_) => nodes_line(out, 0, 0),
     }
 }
 
@@ -184,4 +184,46 @@ pub fn put_verdict(out: &mut [u8; 512], v: Verdict) -> usize
         Verdict::Outside => verdict_line(out, 8, b"-", 0, 0, 0),
         Verdict::Bad(f) => verdict_line(out, fault_number(f), b"-", 0, 0, 0),
     }
+}
+
+// A list of sets. The count is 0 where the allowance ended first, and the visits are where the sets had no room.
+fn put_listed(out: &mut [u8; 512], name: &[u8], l: Listed) -> usize
+    requires { ⌜ length (now name) ≤ 8 ⌝ }
+    ensures { λ k. ⌜ Written (listLine (now (name .entry)) (listedSays l)) (now (out .entry)) (now (out .exit)) k ⌝ }
+{
+    match l {
+        Listed::Sets { count, visits } => list_line(out, name, 0, count, visits),
+        Listed::Short { count } => list_line(out, name, 10, count, 0),
+        Listed::Spent { visits } => list_line(out, name, 9, 0, visits),
+        Listed::Unsplit => list_line(out, name, 13, 0, 0),
+        Listed::Bad(f) => list_line(out, name, fault_number(f), 0, 0),
+    }
+}
+
+// The minimal quorums, before their sets.
+pub fn put_minimal(out: &mut [u8; 512], l: Listed) -> usize
+    ensures { λ k. ⌜ Written (listLine minimal (listedSays l)) (now (out .entry)) (now (out .exit)) k ⌝ }
+{
+    put_listed(out, b"minimal", l)
+}
+
+// The minimal blocking sets, before them.
+pub fn put_blocking(out: &mut [u8; 512], l: Listed) -> usize
+    ensures { λ k. ⌜ Written (listLine blocking (listedSays l)) (now (out .entry)) (now (out .exit)) k ⌝ }
+{
+    put_listed(out, b"blocking", l)
+}
+
+// One minimal quorum.
+pub fn put_quorum(out: &mut [u8; 512], set: u64) -> usize
+    ensures { λ k. ⌜ Written (setLine q set) (now (out .entry)) (now (out .exit)) k ⌝ }
+{
+    set_line(out, b"q", set)
+}
+
+// One minimal blocking set.
+pub fn put_blocks(out: &mut [u8; 512], set: u64) -> usize
+    ensures { λ k. ⌜ Written (setLine b set) (now (out .entry)) (now (out .exit)) k ⌝ }
+{
+    set_line(out, b"b", set)
 }

@@ -1,83 +1,58 @@
+-- What each answer says is the line that its arm writes.
 use borrow.Author.Needs.{needs}
+use native.Mathlib.Omega.{arith}
+use Rattle.meanings.specs.Replies.{valueIn}
+use Rattle.report.specs.Report.{refusedLine}
+use Rattle.report.proofs.Longest.{refused-longest}
 use Rattle.report.proofs.put_refused.Statement.{statement}
 use Rattle.report.proofs.put_refused.Tie as tie
-use Rattle.report.proofs.put_refused.Reads as reads
-use Rattle.report.proofs.put_refused.Lts as lts
-use Rattle.report.proofs.fault_number.Reads as fault-number-reads
-use Rattle.report.proofs.fault_place.Reads as fault-place-reads
-use Rattle.report.proofs.refused_line.Reads as refused-line-reads
 
--- src/lib.rt:153:50
 enum-told : tie.Need-enum-told
 enum-told c = search needs
 
--- src/lib.rt:153:37
 refused-line-requires : tie.Need-refused-line-requires
-refused-line-requires c κs = ?
+refused-line-requires c κs = omega (arith, refused-longest 0 0 (omega arith) (omega arith))
 
--- src/lib.rt:154:50
 enum-told-2 : tie.Need-enum-told-2
 enum-told-2 c = search needs
 
--- src/lib.rt:154:37
 refused-line-requires-2 : tie.Need-refused-line-requires-2
-refused-line-requires-2 c κs = ?
+refused-line-requires-2 c κs = omega (arith, refused-longest 10 0 (omega arith) (omega arith))
 
--- src/lib.rt:155:27
 enum-known-r : tie.Need-enum-known-r
 enum-known-r c = search needs
 
--- src/lib.rt:155:37
 refused-line-requires-3 : tie.Need-refused-line-requires-3
-refused-line-requires-3 c κs = ?
+refused-line-requires-3 c κs = let g = c .before .before .r .given .0 in omega (arith, refused-longest 12 (g .0) (omega arith) (omega arith))
 
--- src/lib.rt:156:19
 enum-known-r-2 : tie.Need-enum-known-r-2
 enum-known-r-2 c = search needs
 
--- src/lib.rt:156:43
 fault-number-requires : tie.Need-fault-number-requires
 fault-number-requires c κs = search needs
 
--- src/lib.rt:156:60
 fault-place-requires : tie.Need-fault-place-requires
 fault-place-requires c κs = search needs
 
--- src/lib.rt:156:25
 refused-line-requires-4 : tie.Need-refused-line-requires-4
-refused-line-requires-4 c κs = ?
+refused-line-requires-4 c κs = omega (arith, refused-longest (c .before .fault-number .result) (c .fault-place .result) (omega arith) (omega arith))
 
--- src/lib.rt:149:1
 returns : tie.Need-returns
-returns c = ?
+unfolding refusedLine valueIn
+returns c = rw (c .before .before .enum-told .given .1) (c .refused-line .ensures)
 
--- src/lib.rt:149:1
 returns-2 : tie.Need-returns-2
-returns-2 c = ?
+unfolding refusedLine valueIn
+returns-2 c = rw (c .before .before .enum-told2 .given .1) (c .refused-line2 .ensures)
 
--- src/lib.rt:149:1
 returns-3 : tie.Need-returns-3
-returns-3 c = ?
+unfolding refusedLine valueIn
+returns-3 c = rw (c .before .before .before .r .given .1) (c .refused-line3 .ensures)
 
--- src/lib.rt:149:1
 returns-4 : tie.Need-returns-4
-returns-4 c = ?
+unfolding refusedLine
+returns-4 c = let p = c .before in rw (p .before .before .before .before .r2 .given .1) (rw (p .before .fault-number .ensures, p .fault-place .ensures) at (c .refused-line4 .ensures))
 
 pub put-refused-spec : {M : Type 1} → statement M
 put-refused-spec =
-    tie.close
-    (tie.spec
-    enum-told
-    refused-line-requires
-    enum-told-2
-    refused-line-requires-2
-    enum-known-r
-    refused-line-requires-3
-    enum-known-r-2
-    fault-number-requires
-    fault-place-requires
-    refused-line-requires-4
-    returns
-    returns-2
-    returns-3
-    returns-4)
+    tie.close (tie.spec enum-told refused-line-requires enum-told-2 refused-line-requires-2 enum-known-r refused-line-requires-3 enum-known-r-2 fault-number-requires fault-place-requires refused-line-requires-4 returns returns-2 returns-3 returns-4)
