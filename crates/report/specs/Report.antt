@@ -1,11 +1,17 @@
--- Document 01, 'The report program': what each line of the report is, to the byte, as a function of what was answered.
+-- Document 01, 'The report program': what each line of the report is, to the byte, as a function of what was answered; and what the whole
+-- report of a sheet is.
 use Prim.Native.Nat.{ℕ}
 use mathlib.Core.Bool.{cond}
 use mathlib.Core.List.{List, [], _∷_, _++_}
 use lib.Dec.{eqb}
+use Rattle.sets.specs.Sets.{nobody}
 use Rattle.decimal.specs.Decimal.{numeral}
 use Rattle.members.specs.Members.{memberText}
 use Rattle.meanings.specs.Replies.{Reply, value, Place, Nodes, Records, Answer, First, Second, Count, Visits}
+use Rattle.meanings.specs.Table.{nodes, satisfied}
+use Rattle.meanings.specs.Trees.{list, minimalTree, blockingTree}
+use Rattle.meanings.specs.Questions.{checkReply, verdictReply, minimalReply, blockingReply, listPuts}
+use Rattle.sheets.specs.Sheets.{readReply, readPuts}
 use Rattle.report.specs.Words as word
 
 -- a line: its fields with tabs between them, ended by LF
@@ -45,3 +51,36 @@ listLine name r = row (name ∷ numeral (r .number) ∷ numeral (value r Count) 
 -- a set of a list, printed as on a sheet
 unfoldable pub setLine : (letter : List ℕ) → ℕ → List ℕ
 setLine letter s = row (letter ∷ memberText s ∷ [])
+
+-- ---- the whole report
+-- the sets of a list, a line for each
+unfoldable pub setLines : (letter : List ℕ) → List ℕ → List ℕ
+setLines letter [] = []
+setLines letter (s ∷ l) = setLine letter s ++ setLines letter l
+
+-- a list: its line, and its sets where it is answered; with 9, 10 or 13 no set lines follow
+unfoldable pub listPart : (name letter : List ℕ) → Reply → List ℕ → List ℕ
+listPart name letter r l = listLine name r ++ cond (eqb (r .number) 0) (setLines letter l) []
+
+-- each of the three questions has this allowance, and the sets of a list have this room
+abbrev pub allowance : ℕ
+allowance = 1000000
+
+abbrev pub room : ℕ
+room = 1024
+
+-- the most words that a sheet can come to
+abbrev pub mostWords : ℕ
+mostWords = 512
+
+-- the report on a table
+unfoldable pub reportOn : (table : List ℕ) → List ℕ
+reportOn t =
+    nodesLine (checkReply t)
+    ++ (verdictLine (verdictReply t nobody allowance)
+    ++ (listPart word.minimal word.q (minimalReply t allowance room) (listPuts (list (minimalTree (nodes t) (satisfied t))))
+    ++ listPart word.blocking word.b (blockingReply t allowance room) (listPuts (list (blockingTree (nodes t) (satisfied t))))))
+
+-- The report on a sheet: one line for a bad one, otherwise that on the table it reads to.
+unfoldable pub reportOf : (sheet : List ℕ) → List ℕ
+reportOf s = cond (eqb (readReply s mostWords .number) 0) (reportOn (readPuts s)) (refusedLine (readReply s mostWords))
