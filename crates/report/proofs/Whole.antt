@@ -1,8 +1,8 @@
 -- The lines in their order are the report: where each answer says what its question's reply is, the lines of what the answers say, one
 -- after the other, are the report's bytes.
-use Prim.Native.Nat.{ℕ, _≤_}
+use Prim.Native.Nat.{ℕ}
 use native.Mathlib.Omega.{arith}
-use mathlib.Core.Path.{_≡_, refl, ap, sym, _∙_}
+use mathlib.Core.Path.{_≡_, refl, ap, sym}
 use mathlib.Core.Bool.{Bool, true, false, cond}
 use mathlib.Core.List.{List, [], _∷_, _++_}
 use borrow.Author.Tests.{eq-eqb, ne-eqb}
@@ -14,7 +14,7 @@ use Rattle.meanings.specs.Table.{nodes, satisfied}
 use Rattle.meanings.specs.Faults.{sound, check}
 use Rattle.meanings.specs.Trees.{Listing, listed, broken, list, minimalTree, blockingTree}
 use Rattle.meanings.specs.Replies.{Reply, reply, value, valueIn, _is_, Count, Visits, leaves}
-use Rattle.meanings.specs.Questions.{checkReply, verdictReply, minimalReply, blockingReply, inAllowance, inRoom, onCheck, listSays, listPuts}
+use Rattle.meanings.specs.Questions.{checkReply, verdictReply, minimalReply, blockingReply, listSays, listPuts}
 use Rattle.answers.specs.declared.Read.{Read}
 use Rattle.answers.specs.declared.Checked.{Checked}
 use Rattle.answers.specs.declared.Verdict.{Verdict}

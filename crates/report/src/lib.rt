@@ -24,9 +24,9 @@ fn put_word(out: &mut [u8], w: &[u8]) -> usize
     requires { ⌜ length (tabbed (now w)) ≤ length (now out) ⌝ }
     ensures { λ r. ⌜ Written (tabbed (now (w .entry))) (now (out .entry)) (now (out .exit)) r ⌝ }
 {
-    let k = bytes::copy(w, out);
-    out[k] = 9;
-    k + 1
+    let end = bytes::copy(w, out);
+    out[end] = 9;
+    end + 1
 }
 
 // A number that ends its line.
@@ -67,16 +67,18 @@ fn put_pair(out: &mut [u8], first: u64, second: u64) -> usize
     a + lines::put_last(&mut out[a..], second)
 }
 
+// The line of a sheet that is turned away, by its number and place.
 fn refused_line(out: &mut [u8], number: u64, place: u64) -> usize
-    requires { ⌜ length (row (refused ∷ numeral number ∷ numeral place ∷ [])) ≤ length (now out) ⌝ }
+    requires { ⌜ 512 ≤ length (now out) ⌝ }
     ensures { λ r. ⌜ Written (row (refused ∷ numeral number ∷ numeral place ∷ [])) (now (out .entry)) (now (out .exit)) r ⌝ }
 {
     let a = put_numbered(out, b"refused", number);
     a + put_end(&mut out[a..], place)
 }
 
+// The line of a table's nodes and records.
 fn nodes_line(out: &mut [u8], nodes: u64, records: u64) -> usize
-    requires { ⌜ length (row (nodesWord ∷ numeral nodes ∷ sets ∷ numeral records ∷ [])) ≤ length (now out) ⌝ }
+    requires { ⌜ 512 ≤ length (now out) ⌝ }
     ensures { λ r. ⌜ Written (row (nodesWord ∷ numeral nodes ∷ sets ∷ numeral records ∷ [])) (now (out .entry)) (now (out .exit)) r ⌝ }
 {
     let a = put_numbered(out, b"nodes", nodes);
@@ -84,6 +86,7 @@ fn nodes_line(out: &mut [u8], nodes: u64, records: u64) -> usize
     b + put_end(&mut out[b..], records)
 }
 
+// The line of a verdict; the set 0 prints as a hyphen.
 fn verdict_line(
     out: &mut [u8],
     number: u64,
@@ -92,7 +95,7 @@ fn verdict_line(
     first: u64,
     second: u64,
 ) -> usize
-    requires { ⌜ length (row (verdict ∷ numeral number ∷ now answer ∷ numeral visits ∷ memberText first ∷ memberText second ∷ [])) ≤ length (now out) ⌝ }
+    requires { ⌜ (512 ≤ length (now out)) × (length (now answer) ≤ 3) ⌝ }
     ensures { λ r. ⌜ Written (row (verdict ∷ numeral number ∷ now (answer .entry) ∷ numeral visits ∷ memberText first ∷ memberText second ∷ [])) (now (out .entry)) (now (out .exit)) r ⌝ }
 {
     let a = put_numbered(out, b"verdict", number);
@@ -100,8 +103,9 @@ fn verdict_line(
     b + put_pair(&mut out[b..], first, second)
 }
 
+// The line of a list, before its sets.
 fn list_line(out: &mut [u8], name: &[u8], number: u64, count: u64, visits: u64) -> usize
-    requires { ⌜ length (row (now name ∷ numeral number ∷ numeral count ∷ numeral visits ∷ [])) ≤ length (now out) ⌝ }
+    requires { ⌜ (512 ≤ length (now out)) × (length (now name) ≤ 8) ⌝ }
     ensures { λ r. ⌜ Written (row (now (name .entry) ∷ numeral number ∷ numeral count ∷ numeral visits ∷ [])) (now (out .entry)) (now (out .exit)) r ⌝ }
 {
     let a = put_numbered(out, name, number);
@@ -109,15 +113,16 @@ fn list_line(out: &mut [u8], name: &[u8], number: u64, count: u64, visits: u64) 
     b + put_end(&mut out[b..], visits)
 }
 
+// The line of one set of a list.
 fn set_line(out: &mut [u8], letter: &[u8], set: u64) -> usize
-    requires { ⌜ length (row (now letter ∷ memberText set ∷ [])) ≤ length (now out) ⌝ }
+    requires { ⌜ (512 ≤ length (now out)) × (length (now letter) ≤ 1) ⌝ }
     ensures { λ r. ⌜ Written (row (now (letter .entry) ∷ memberText set ∷ [])) (now (out .entry)) (now (out .exit)) r ⌝ }
 {
     let a = put_word(out, letter);
     a + lines::put_last(&mut out[a..], set)
 }
 
-// Numbers 1 to 7.
+// The number of a fault, 1 to 7.
 fn fault_number(f: Fault) -> u64
     ensures { λ r. ⌜ r ≡ faultSays f .number ⌝ }
 {
@@ -132,6 +137,7 @@ fn fault_number(f: Fault) -> u64
     }
 }
 
+// The record or line that the fault is at.
 fn fault_place(f: Fault) -> u64
     ensures { λ r. ⌜ r ≡ value (faultSays f) Place ⌝ }
 {

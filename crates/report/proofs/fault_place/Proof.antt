@@ -55,4 +55,19 @@ returns-7 c = rw (c .before .f7 .given .1)
 
 pub fault-place-spec : {M : Type 1} → statement M
 fault-place-spec =
-    tie.close (tie.spec enum-known-f enum-known-f-2 enum-known-f-3 enum-known-f-4 enum-known-f-5 enum-known-f-6 enum-known-f-7 returns returns-2 returns-3 returns-4 returns-5 returns-6 returns-7)
+    tie.close
+    (tie.spec
+    enum-known-f
+    enum-known-f-2
+    enum-known-f-3
+    enum-known-f-4
+    enum-known-f-5
+    enum-known-f-6
+    enum-known-f-7
+    returns
+    returns-2
+    returns-3
+    returns-4
+    returns-5
+    returns-6
+    returns-7)

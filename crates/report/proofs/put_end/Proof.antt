@@ -20,17 +20,24 @@ put-number-requires : tie.Need-put-number-requires
 put-number-requires c κs = omega (arith, room (c .before .before))
 
 slice-write-out : tie.Need-slice-write-out
-slice-write-out c = let p = c .before .before in within-byte _ _ _ _ (p .put-number .ensures) (room (p .before .before .before))
+slice-write-out c =
+    let p = c .before .before in
+    within-byte _ _ _ _ (p .put-number .ensures) (room (p .before .before .before))
 
 add-result : tie.Need-add-result
-add-result c = let p = c .before .before in omega (arith, room (p .before .before .before), p .put-number .ensures .count)
+add-result c =
+    let p = c .before .before in
+    omega (arith, room (p .before .before .before), p .put-number .ensures .count)
 
 same-length : tie.Need-same-length
 same-length c = search needs
 
 returns : tie.Need-returns
 unfolding ended
-returns c = let p = c .before .before in next-byte _ _ _ _ (p .put-number .ensures) (room (p .before .before .before)) 10
+returns c =
+    let p = c .before .before in
+    next-byte _ _ _ _ (p .put-number .ensures) (room (p .before .before .before)) 10
 
 pub put-end-spec : {M : Type 1} → statement M
-put-end-spec = tie.close (tie.spec put-number-requires slice-write-out add-result same-length returns)
+put-end-spec =
+    tie.close (tie.spec put-number-requires slice-write-out add-result same-length returns)

@@ -1,10 +1,8 @@
 -- What each answer says is the line that its arm writes.
 use borrow.Author.Needs.{needs}
-use native.Mathlib.Omega.{arith}
 use denote.Ref.{now}
 use Rattle.meanings.specs.Replies.{valueIn}
 use Rattle.report.specs.Report.{listLine}
-use Rattle.report.proofs.Longest.{list-longest}
 use Rattle.report.proofs.Faulty.{list-fault}
 use Rattle.report.proofs.put_listed.Statement.{statement}
 use Rattle.report.proofs.put_listed.Tie as tie
@@ -13,37 +11,25 @@ enum-known-l : tie.Need-enum-known-l
 enum-known-l c = search needs
 
 list-line-requires : tie.Need-list-line-requires
-list-line-requires c κs =
-    let p = c .before .before in
-    let s = p .before .before .before in
-    let g = p .l .given .0 in
-    omega (arith, list-longest (now (s .args .name)) 0 (g .0) (g .1 .0) (s .pre) (omega arith) (omega arith) (omega arith))
+list-line-requires c κs = search needs
 
 enum-known-l-2 : tie.Need-enum-known-l-2
 enum-known-l-2 c = search needs
 
 list-line-requires-2 : tie.Need-list-line-requires-2
-list-line-requires-2 c κs =
-    let p = c .before .before in
-    let s = p .before .before .before in
-    omega (arith, list-longest (now (s .args .name)) 10 (p .l2 .given .0 .0) 0 (s .pre) (omega arith) (omega arith) (omega arith))
+list-line-requires-2 c κs = search needs
 
 enum-known-l-3 : tie.Need-enum-known-l-3
 enum-known-l-3 c = search needs
 
 list-line-requires-3 : tie.Need-list-line-requires-3
-list-line-requires-3 c κs =
-    let p = c .before .before in
-    let s = p .before .before .before in
-    omega (arith, list-longest (now (s .args .name)) 9 0 (p .l3 .given .0 .0) (s .pre) (omega arith) (omega arith) (omega arith))
+list-line-requires-3 c κs = search needs
 
 enum-told : tie.Need-enum-told
 enum-told c = search needs
 
 list-line-requires-4 : tie.Need-list-line-requires-4
-list-line-requires-4 c κs =
-    let s = c .before .before .before .before in
-    omega (arith, list-longest (now (s .args .name)) 13 0 0 (s .pre) (omega arith) (omega arith) (omega arith))
+list-line-requires-4 c κs = search needs
 
 enum-known-l-4 : tie.Need-enum-known-l-4
 enum-known-l-4 c = search needs
@@ -52,9 +38,7 @@ fault-number-requires : tie.Need-fault-number-requires
 fault-number-requires c κs = search needs
 
 list-line-requires-5 : tie.Need-list-line-requires-5
-list-line-requires-5 c κs =
-    let s = c .before .before .before .before .before .before in
-    omega (arith, list-longest (now (s .args .name)) (c .fault-number .result) 0 0 (s .pre) (omega arith) (omega arith) (omega arith))
+list-line-requires-5 c κs = search needs
 
 returns : tie.Need-returns
 unfolding listLine valueIn

@@ -20,17 +20,24 @@ put-members-requires : tie.Need-put-members-requires
 put-members-requires c κs = omega (arith, room (c .before .before))
 
 slice-write-out : tie.Need-slice-write-out
-slice-write-out c = let p = c .before .before in within-byte _ _ _ _ (p .put-members .ensures) (room (p .before .before .before))
+slice-write-out c =
+    let p = c .before .before in
+    within-byte _ _ _ _ (p .put-members .ensures) (room (p .before .before .before))
 
 add-result : tie.Need-add-result
-add-result c = let p = c .before .before in omega (arith, room (p .before .before .before), p .put-members .ensures .count)
+add-result c =
+    let p = c .before .before in
+    omega (arith, room (p .before .before .before), p .put-members .ensures .count)
 
 same-length : tie.Need-same-length
 same-length c = search needs
 
 returns : tie.Need-returns
 unfolding tabbed
-returns c = let p = c .before .before in next-byte _ _ _ _ (p .put-members .ensures) (room (p .before .before .before)) 9
+returns c =
+    let p = c .before .before in
+    next-byte _ _ _ _ (p .put-members .ensures) (room (p .before .before .before)) 9
 
 pub put-set-spec : {M : Type 1} → statement M
-put-set-spec = tie.close (tie.spec put-members-requires slice-write-out add-result same-length returns)
+put-set-spec =
+    tie.close (tie.spec put-members-requires slice-write-out add-result same-length returns)

@@ -28,7 +28,9 @@ copy-requires : tie.Need-copy-requires
 copy-requires c κs = omega (arith, room (c .before .before .before))
 
 slice-write-out : tie.Need-slice-write-out
-slice-write-out c = let p = c .before .before in within-byte _ _ _ _ (copied p) (room (p .before .before .before .before))
+slice-write-out c =
+    let p = c .before .before in
+    within-byte _ _ _ _ (copied p) (room (p .before .before .before .before))
 
 add-result : tie.Need-add-result
 add-result c = search needs
@@ -38,7 +40,10 @@ same-length c = search needs
 
 returns : tie.Need-returns
 unfolding tabbed
-returns c = let p = c .before .before in next-byte _ _ _ _ (copied p) (room (p .before .before .before .before)) 9
+returns c =
+    let p = c .before .before in
+    next-byte _ _ _ _ (copied p) (room (p .before .before .before .before)) 9
 
 pub put-word-spec : {M : Type 1} → statement M
-put-word-spec = tie.close (tie.spec copy-requires slice-write-out add-result same-length returns)
+put-word-spec =
+    tie.close (tie.spec copy-requires slice-write-out add-result same-length returns)

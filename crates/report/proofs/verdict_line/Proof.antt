@@ -1,102 +1,153 @@
 -- Each part goes right behind those before it.
 use borrow.Author.Needs.{needs}
 use native.Mathlib.Omega.{arith}
-use Prim.Native.Nat.{_+_, _-_, _≤_}
-use mathlib.Core.List.{[], _∷_, _++_, append-assoc}
-use mathlib.Core.Path.{ap, sym}
+use Prim.Native.Nat.{ℕ, _+_, _-_, _≤_}
+use mathlib.Core.List.{List, _++_, append-assoc}
 use denote.Ref.{now}
 use lib.ListN.{length, length-append}
 use borrow.Rule.Slice.PartMut.{putMid}
 use Rattle.decimal.specs.Bytes.{Written}
-use Rattle.decimal.specs.Decimal.{numeral}
 use Rattle.decimal.proofs.Place.{within, room, next}
 use Rattle.members.specs.Members.{memberText}
-use Rattle.lines.specs.Lines.{fieldText, lastText}
-use Rattle.report.specs.Fields.{tabbed, ended, numbered}
+use Rattle.lines.specs.Lines.{lastText}
+use Rattle.report.specs.Fields.{tabbed, numbered}
 use Rattle.report.specs.Words as word
-use Rattle.report.specs.Report.{row}
-use Rattle.report.proofs.Rows.{both, two, three, row-word, row-field, row-numbered, row-end, row-set, row-pair}
+use Rattle.report.proofs.Rows.{first-two, all-three, verdict-parts}
+use Rattle.report.proofs.Longest.{verdict-longest}
 use Rattle.report.proofs.verdict_line.Statement.{statement}
 use Rattle.report.proofs.verdict_line.Tie as tie
 
--- the three texts have room
-all-fit : (c : tie.Start) → let a = c .args in length ((numbered word.verdict (a .number)) ++ ((numbered (now (a .answer)) (a .visits)) ++ (tabbed (memberText (a .first)) ++ lastText (a .second)))) ≤ length (now (a .out))
-all-fit c = let a = c .args in rw (row-numbered word.verdict (a .number) (now (a .answer)) (numeral (a .visits) ∷ memberText (a .first) ∷ memberText (a .second) ∷ []), row-numbered (now (a .answer)) (a .visits) (memberText (a .first)) (memberText (a .second) ∷ []), row-pair (a .first) (a .second)) at (c .pre)
+-- the parts
+abbrev head : tie.Start → List ℕ
+head s = numbered word.verdict (s .args .number)
 
-fits : (c : tie.Start) → let a = c .args in length (numbered word.verdict (a .number)) + length (numbered (now (a .answer)) (a .visits)) ≤ length (now (a .out))
-fits c = let a = c .args in two (numbered word.verdict (a .number)) (numbered (now (a .answer)) (a .visits)) (tabbed (memberText (a .first)) ++ lastText (a .second)) (now (a .out)) (all-fit c)
+abbrev middle : tie.Start → List ℕ
+middle s = numbered (now (s .args .answer)) (s .args .visits)
 
-last-fits : (c : tie.Start) → let a = c .args in length ((numbered word.verdict (a .number)) ++ (numbered (now (a .answer)) (a .visits))) + length (tabbed (memberText (a .first)) ++ lastText (a .second)) ≤ length (now (a .out))
-last-fits c = let a = c .args in three (numbered word.verdict (a .number)) (numbered (now (a .answer)) (a .visits)) (tabbed (memberText (a .first)) ++ lastText (a .second)) (now (a .out)) (all-fit c)
+abbrev last : tie.Start → List ℕ
+last s = tabbed (memberText (s .args .first)) ++ lastText (s .args .second)
+
+room-for : (s : tie.Start) → length (head s ++ (middle s ++ last s)) ≤ length (now (s .args .out))
+room-for s =
+    let a = s .args in
+    let most = rw (verdict-parts (s .args .number) (now (s .args .answer)) (s .args .visits) (s .args .first) (s .args .second)) at (verdict-longest (a .number) (now (a .answer)) (a .visits) (a .first) (a .second) (omega arith) (s .pre .1) (omega arith)) in
+    omega (arith, most)
+
+fits : (s : tie.Start) → length (head s) + length (middle s) ≤ length (now (s .args .out))
+fits s = first-two (head s) (middle s) (last s) (now (s .args .out)) (room-for s)
+
+all-fit : (s : tie.Start) → length (head s ++ middle s) + length (last s) ≤ length (now (s .args .out))
+all-fit s = all-three (head s) (middle s) (last s) (now (s .args .out)) (room-for s)
 
 second : (c : tie.After-put-numbered2) →
     let f = c .before .before .before .before in
-    let a = f .before .before .before .before .before .args in
+    let s = f .before .before .before .before .before in
     let at = f .put-numbered .result in
     let o = f .put-numbered .last .0 in
-    Written ((numbered word.verdict (a .number)) ++ (numbered (now (a .answer)) (a .visits))) (now (a .out)) (putMid at (length o - at) o (c .put-numbered2 .last .0)) (at + c .put-numbered2 .result)
+    Written (head s ++ middle s) (now (s .args .out)) (putMid at (length o - at) o (c .put-numbered2 .last .0)) (at + c .put-numbered2 .result)
 second c =
     let f = c .before .before .before .before in
     let s = f .before .before .before .before .before in
-    let a = s .args in
-    next _ _ _ _ (f .put-numbered .ensures) (numbered (now (a .answer)) (a .visits)) (fits s) _ _ (c .put-numbered2 .ensures)
+    next _ _ _ _ (f .put-numbered .ensures) (middle s) (fits s) _ _ (c .put-numbered2 .ensures)
 
 third : (c : tie.After-put-pair) →
     let g = c .before .before .before .before in
     let f = g .before .before .before .before in
-    let a = f .before .before .before .before .before .args in
+    let s = f .before .before .before .before .before in
     let at₁ = f .put-numbered .result in
     let o₁ = f .put-numbered .last .0 in
     let at = at₁ + g .put-numbered2 .result in
     let o = putMid at₁ (length o₁ - at₁) o₁ (g .put-numbered2 .last .0) in
-    Written (((numbered word.verdict (a .number)) ++ (numbered (now (a .answer)) (a .visits))) ++ (tabbed (memberText (a .first)) ++ lastText (a .second))) (now (a .out)) (putMid at (length o - at) o (c .put-pair .last .0)) (at + c .put-pair .result)
+    Written ((head s ++ middle s) ++ last s) (now (s .args .out)) (putMid at (length o - at) o (c .put-pair .last .0)) (at + c .put-pair .result)
 third c =
     let g = c .before .before .before .before in
     let s = g .before .before .before .before .before .before .before .before .before in
-    let a = s .args in
-    next _ _ _ _ (second g) (tabbed (memberText (a .first)) ++ lastText (a .second)) (last-fits s) _ _ (c .put-pair .ensures)
+    next _ _ _ _ (second g) (last s) (all-fit s) _ _ (c .put-pair .ensures)
 
 slice-aggregate-put-numbered : tie.Need-slice-aggregate-put-numbered
 slice-aggregate-put-numbered c = search needs
 
 put-numbered-requires : tie.Need-put-numbered-requires
-put-numbered-requires c κs = let s = c .before .before .before .before in omega (arith, fits s)
+put-numbered-requires c κs = omega (arith, fits (c .before .before .before .before))
 
 sub-put-numbered : tie.Need-sub-put-numbered
-sub-put-numbered c = let f = c .before .before in let s = f .before .before .before .before .before in let a = s .args in within _ _ _ _ (f .put-numbered .ensures) (numbered (now (a .answer)) (a .visits)) (fits s)
+sub-put-numbered c =
+    let f = c .before .before in
+    let s = f .before .before .before .before .before in
+    within _ _ _ _ (f .put-numbered .ensures) (middle s) (fits s)
 
 part-put-numbered-start : tie.Need-part-put-numbered-start
-part-put-numbered-start c = let f = c .before .before in let s = f .before .before .before .before .before in let a = s .args in within _ _ _ _ (f .put-numbered .ensures) (numbered (now (a .answer)) (a .visits)) (fits s)
+part-put-numbered-start c =
+    let f = c .before .before in
+    let s = f .before .before .before .before .before in
+    within _ _ _ _ (f .put-numbered .ensures) (middle s) (fits s)
 
 part-put-numbered-end : tie.Need-part-put-numbered-end
 part-put-numbered-end c = search needs
 
 put-numbered-requires-2 : tie.Need-put-numbered-requires-2
-put-numbered-requires-2 c κs = let f = c .before .before .before in let s = f .before .before .before .before .before in let a = s .args in room _ _ _ _ (f .put-numbered .ensures) (numbered (now (a .answer)) (a .visits)) (fits s)
+put-numbered-requires-2 c κs =
+    let f = c .before .before .before in
+    let s = f .before .before .before .before .before in
+    room _ _ _ _ (f .put-numbered .ensures) (middle s) (fits s)
 
 add-b : tie.Need-add-b
-add-b c = let g = c .before .before in let s = g .before .before .before .before .before .before .before .before .before in let a = s .args in omega (arith, second g .count, fits s, length-append (numbered word.verdict (a .number)) (numbered (now (a .answer)) (a .visits)))
+add-b c =
+    let g = c .before .before in
+    let s = g .before .before .before .before .before .before .before .before .before in
+    omega (arith, second g .count, fits s, length-append (head s) (middle s))
 
 sub-put-pair : tie.Need-sub-put-pair
-sub-put-pair c = let g = c .before .before in let s = g .before .before .before .before .before .before .before .before .before in let a = s .args in within _ _ _ _ (second g) (tabbed (memberText (a .first)) ++ lastText (a .second)) (last-fits s)
+sub-put-pair c =
+    let g = c .before .before in
+    let s = g .before .before .before .before .before .before .before .before .before in
+    within _ _ _ _ (second g) (last s) (all-fit s)
 
 part-put-pair-start : tie.Need-part-put-pair-start
-part-put-pair-start c = let g = c .before .before in let s = g .before .before .before .before .before .before .before .before .before in let a = s .args in within _ _ _ _ (second g) (tabbed (memberText (a .first)) ++ lastText (a .second)) (last-fits s)
+part-put-pair-start c =
+    let g = c .before .before in
+    let s = g .before .before .before .before .before .before .before .before .before in
+    within _ _ _ _ (second g) (last s) (all-fit s)
 
 part-put-pair-end : tie.Need-part-put-pair-end
 part-put-pair-end c = search needs
 
 put-pair-requires : tie.Need-put-pair-requires
-put-pair-requires c κs = let g = c .before .before .before in let s = g .before .before .before .before .before .before .before .before .before in let a = s .args in room _ _ _ _ (second g) (tabbed (memberText (a .first)) ++ lastText (a .second)) (last-fits s)
+put-pair-requires c κs =
+    let g = c .before .before .before in
+    let s = g .before .before .before .before .before .before .before .before .before in
+    room _ _ _ _ (second g) (last s) (all-fit s)
 
 add-result : tie.Need-add-result
-add-result c = let p = c .before .before in let s = p .before .before .before .before .before .before .before .before .before .before .before .before .before in let a = s .args in omega (arith, third p .count, last-fits s, length-append ((numbered word.verdict (a .number)) ++ (numbered (now (a .answer)) (a .visits))) (tabbed (memberText (a .first)) ++ lastText (a .second)))
+add-result c =
+    let p = c .before .before in
+    let s = p .before .before .before .before .before .before .before .before .before .before .before .before .before in
+    omega (arith, third p .count, all-fit s, length-append (head s ++ middle s) (last s))
 
 same-length : tie.Need-same-length
 same-length c = search needs
 
 returns : tie.Need-returns
-returns c = let p = c .before .before in let a = p .before .before .before .before .before .before .before .before .before .before .before .before .before .args in rw (row-numbered word.verdict (a .number) (now (a .answer)) (numeral (a .visits) ∷ memberText (a .first) ∷ memberText (a .second) ∷ []), row-numbered (now (a .answer)) (a .visits) (memberText (a .first)) (memberText (a .second) ∷ []), row-pair (a .first) (a .second), ← append-assoc (numbered word.verdict (a .number)) (numbered (now (a .answer)) (a .visits)) (tabbed (memberText (a .first)) ++ lastText (a .second))) (third p)
+returns c =
+    let p = c .before .before in
+    let s = p .before .before .before .before .before .before .before .before .before .before .before .before .before in
+    rw (verdict-parts (s .args .number) (now (s .args .answer)) (s .args .visits) (s .args .first) (s .args .second), ← append-assoc (head s) (middle s) (last s)) (third p)
 
 pub verdict-line-spec : {M : Type 1} → statement M
-verdict-line-spec = tie.close (tie.spec slice-aggregate-put-numbered put-numbered-requires sub-put-numbered part-put-numbered-start part-put-numbered-end put-numbered-requires-2 add-b sub-put-pair part-put-pair-start part-put-pair-end put-pair-requires add-result same-length returns)
+verdict-line-spec =
+    tie.close
+    (tie.spec
+    slice-aggregate-put-numbered
+    put-numbered-requires
+    sub-put-numbered
+    part-put-numbered-start
+    part-put-numbered-end
+    put-numbered-requires-2
+    add-b
+    sub-put-pair
+    part-put-pair-start
+    part-put-pair-end
+    put-pair-requires
+    add-result
+    same-length
+    returns)
