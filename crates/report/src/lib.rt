@@ -11,7 +11,7 @@ ghost use Rattle.answers.specs.Said.{faultSays, readSays, checkedSays, verdictS
 ghost use Rattle.lines.specs.Lines.{lastText};
 ghost use Rattle.meanings.specs.Replies.{value, Place};
 ghost use Rattle.report.specs.Words.{refused, nodes as nodesWord, sets, verdict, minimal, blocking, q, b};
-ghost use Rattle.report.specs.Fields.{tabbed, ended, numbered};
+ghost use Rattle.report.specs.Fields.{tabbed, ended, numbered, Line};
 ghost use Rattle.report.specs.Report.{row, refusedLine, nodesLine, verdictLine, listLine, setLine};
 use answers::Checked;
 use answers::Fault;
@@ -70,7 +70,7 @@ fn put_pair(out: &mut [u8], first: u64, second: u64) -> usize
 // The line of a sheet that is turned away, by its number and place.
 fn refused_line(out: &mut [u8], number: u64, place: u64) -> usize
     requires { ⌜ 512 ≤ length (now out) ⌝ }
-    ensures { λ r. ⌜ Written (row (refused ∷ numeral number ∷ numeral place ∷ [])) (now (out .entry)) (now (out .exit)) r ⌝ }
+    ensures { λ r. ⌜ Line (row (refused ∷ numeral number ∷ numeral place ∷ [])) (now (out .entry)) (now (out .exit)) r ⌝ }
 {
     let a = put_numbered(out, b"refused", number);
     a + put_end(&mut out[a..], place)
@@ -79,7 +79,7 @@ fn refused_line(out: &mut [u8], number: u64, place: u64) -> usize
 // The line of a table's nodes and records.
 fn nodes_line(out: &mut [u8], nodes: u64, records: u64) -> usize
     requires { ⌜ 512 ≤ length (now out) ⌝ }
-    ensures { λ r. ⌜ Written (row (nodesWord ∷ numeral nodes ∷ sets ∷ numeral records ∷ [])) (now (out .entry)) (now (out .exit)) r ⌝ }
+    ensures { λ r. ⌜ Line (row (nodesWord ∷ numeral nodes ∷ sets ∷ numeral records ∷ [])) (now (out .entry)) (now (out .exit)) r ⌝ }
 {
     let a = put_numbered(out, b"nodes", nodes);
     let b = a + put_word(&mut out[a..], b"sets");
@@ -96,7 +96,7 @@ fn verdict_line(
     second: u64,
 ) -> usize
     requires { ⌜ (512 ≤ length (now out)) × (length (now answer) ≤ 3) ⌝ }
-    ensures { λ r. ⌜ Written (row (verdict ∷ numeral number ∷ now (answer .entry) ∷ numeral visits ∷ memberText first ∷ memberText second ∷ [])) (now (out .entry)) (now (out .exit)) r ⌝ }
+    ensures { λ r. ⌜ Line (row (verdict ∷ numeral number ∷ now (answer .entry) ∷ numeral visits ∷ memberText first ∷ memberText second ∷ [])) (now (out .entry)) (now (out .exit)) r ⌝ }
 {
     let a = put_numbered(out, b"verdict", number);
     let b = a + put_numbered(&mut out[a..], answer, visits);
@@ -106,7 +106,7 @@ fn verdict_line(
 // The line of a list, before its sets.
 fn list_line(out: &mut [u8], name: &[u8], number: u64, count: u64, visits: u64) -> usize
     requires { ⌜ (512 ≤ length (now out)) × (length (now name) ≤ 8) ⌝ }
-    ensures { λ r. ⌜ Written (row (now (name .entry) ∷ numeral number ∷ numeral count ∷ numeral visits ∷ [])) (now (out .entry)) (now (out .exit)) r ⌝ }
+    ensures { λ r. ⌜ Line (row (now (name .entry) ∷ numeral number ∷ numeral count ∷ numeral visits ∷ [])) (now (out .entry)) (now (out .exit)) r ⌝ }
 {
     let a = put_numbered(out, name, number);
     let b = a + lines::put_field(&mut out[a..], count);
@@ -116,7 +116,7 @@ fn list_line(out: &mut [u8], name: &[u8], number: u64, count: u64, visits: u64) 
 // The line of one set of a list.
 fn set_line(out: &mut [u8], letter: &[u8], set: u64) -> usize
     requires { ⌜ (512 ≤ length (now out)) × (length (now letter) ≤ 1) ⌝ }
-    ensures { λ r. ⌜ Written (row (now (letter .entry) ∷ memberText set ∷ [])) (now (out .entry)) (now (out .exit)) r ⌝ }
+    ensures { λ r. ⌜ Line (row (now (letter .entry) ∷ memberText set ∷ [])) (now (out .entry)) (now (out .exit)) r ⌝ }
 {
     let a = put_word(out, letter);
     a + lines::put_last(&mut out[a..], set)
@@ -154,7 +154,7 @@ fn fault_place(f: Fault) -> u64
 
 // The nodes and records of a table that was checked.
 pub fn put_nodes(out: &mut [u8; 512], c: Checked) -> usize
-    ensures { λ k. ⌜ Written (nodesLine (checkedSays c)) (now (out .entry)) (now (out .exit)) k ⌝ }
+    ensures { λ k. ⌜ Line (nodesLine (checkedSays c)) (now (out .entry)) (now (out .exit)) k ⌝ }
 {
     match c {
         Checked::Sound { nodes, records } => nodes_line(out, nodes, records),
@@ -164,7 +164,7 @@ pub fn put_nodes(out: &mut [u8; 512], c: Checked) -> usize
 
 // A sheet is turned away.
 pub fn put_refused(out: &mut [u8; 512], r: Read) -> usize
-    ensures { λ k. ⌜ Written (refusedLine (readSays r)) (now (out .entry)) (now (out .exit)) k ⌝ }
+    ensures { λ k. ⌜ Line (refusedLine (readSays r)) (now (out .entry)) (now (out .exit)) k ⌝ }
 {
     match r {
         Read::Words { count: _ } => refused_line(out, 0, 0),
@@ -176,7 +176,7 @@ pub fn put_refused(out: &mut [u8; 512], r: Read) -> usize
 
 // Do all quorums intersect? A pair is there only with `no`.
 pub fn put_verdict(out: &mut [u8; 512], v: Verdict) -> usize
-    ensures { λ k. ⌜ Written (verdictLine (verdictSays v)) (now (out .entry)) (now (out .exit)) k ⌝ }
+    ensures { λ k. ⌜ Line (verdictLine (verdictSays v)) (now (out .entry)) (now (out .exit)) k ⌝ }
 {
     match v {
         Verdict::Yes { visits } => verdict_line(out, 0, b"yes", visits, 0, 0),
@@ -195,7 +195,7 @@ pub fn put_verdict(out: &mut [u8; 512], v: Verdict) -> usize
 // A list of sets. The count is 0 where the allowance ended first, and the visits are where the sets had no room.
 fn put_listed(out: &mut [u8; 512], name: &[u8], l: Listed) -> usize
     requires { ⌜ length (now name) ≤ 8 ⌝ }
-    ensures { λ k. ⌜ Written (listLine (now (name .entry)) (listedSays l)) (now (out .entry)) (now (out .exit)) k ⌝ }
+    ensures { λ k. ⌜ Line (listLine (now (name .entry)) (listedSays l)) (now (out .entry)) (now (out .exit)) k ⌝ }
 {
     match l {
         Listed::Sets { count, visits } => list_line(out, name, 0, count, visits),
@@ -208,28 +208,28 @@ fn put_listed(out: &mut [u8; 512], name: &[u8], l: Listed) -> usize
 
 // The minimal quorums, before their sets.
 pub fn put_minimal(out: &mut [u8; 512], l: Listed) -> usize
-    ensures { λ k. ⌜ Written (listLine minimal (listedSays l)) (now (out .entry)) (now (out .exit)) k ⌝ }
+    ensures { λ k. ⌜ Line (listLine minimal (listedSays l)) (now (out .entry)) (now (out .exit)) k ⌝ }
 {
     put_listed(out, b"minimal", l)
 }
 
 // The minimal blocking sets, before them.
 pub fn put_blocking(out: &mut [u8; 512], l: Listed) -> usize
-    ensures { λ k. ⌜ Written (listLine blocking (listedSays l)) (now (out .entry)) (now (out .exit)) k ⌝ }
+    ensures { λ k. ⌜ Line (listLine blocking (listedSays l)) (now (out .entry)) (now (out .exit)) k ⌝ }
 {
     put_listed(out, b"blocking", l)
 }
 
 // One minimal quorum.
 pub fn put_quorum(out: &mut [u8; 512], set: u64) -> usize
-    ensures { λ k. ⌜ Written (setLine q set) (now (out .entry)) (now (out .exit)) k ⌝ }
+    ensures { λ k. ⌜ Line (setLine q set) (now (out .entry)) (now (out .exit)) k ⌝ }
 {
     set_line(out, b"q", set)
 }
 
 // One minimal blocking set.
 pub fn put_blocks(out: &mut [u8; 512], set: u64) -> usize
-    ensures { λ k. ⌜ Written (setLine b set) (now (out .entry)) (now (out .exit)) k ⌝ }
+    ensures { λ k. ⌜ Line (setLine b set) (now (out .entry)) (now (out .exit)) k ⌝ }
 {
     set_line(out, b"b", set)
 }

@@ -2,6 +2,7 @@
 use borrow.Author.Needs.{needs}
 use native.Mathlib.Omega.{arith}
 use Prim.Native.Nat.{ℕ, _+_, _-_, _≤_}
+use mathlib.Core.Path.{ap}
 use mathlib.Core.List.{List, _++_, append-assoc}
 use denote.Ref.{now}
 use lib.ListN.{length, length-append}
@@ -26,11 +27,13 @@ middle s = fieldText (s .args .count)
 abbrev last : tie.Start → List ℕ
 last s = ended (numeral (s .args .visits))
 
-room-for : (s : tie.Start) → length (head s ++ (middle s ++ last s)) ≤ length (now (s .args .out))
-room-for s =
+most : (s : tie.Start) → length (head s ++ (middle s ++ last s)) ≤ 72
+most s =
     let a = s .args in
-    let most = rw (list-parts (now (s .args .name)) (s .args .number) (s .args .count) (s .args .visits)) at (list-longest (now (a .name)) (a .number) (a .count) (a .visits) (s .pre .1) (omega arith) (omega arith) (omega arith)) in
-    omega (arith, most)
+    rw (list-parts (now (s .args .name)) (s .args .number) (s .args .count) (s .args .visits)) at (list-longest (now (a .name)) (a .number) (a .count) (a .visits) (s .pre .1) (omega arith) (omega arith) (omega arith))
+
+room-for : (s : tie.Start) → length (head s ++ (middle s ++ last s)) ≤ length (now (s .args .out))
+room-for s = omega (arith, most s)
 
 fits : (s : tie.Start) → length (head s) + length (middle s) ≤ length (now (s .args .out))
 fits s = first-two (head s) (middle s) (last s) (now (s .args .out)) (room-for s)
@@ -127,7 +130,8 @@ returns : tie.Need-returns
 returns c =
     let p = c .before .before in
     let s = p .before .before .before .before .before .before .before .before .before .before .before .before in
-    rw (list-parts (now (s .args .name)) (s .args .number) (s .args .count) (s .args .visits), ← append-assoc (head s) (middle s) (last s)) (third p)
+    let e = append-assoc (head s) (middle s) (last s) in
+    record { written = rw (list-parts (now (s .args .name)) (s .args .number) (s .args .count) (s .args .visits), ← e) (third p); within = omega (arith, third p .count, most s, ap length e) }
 
 pub list-line-spec : {M : Type 1} → statement M
 list-line-spec =

@@ -2,6 +2,7 @@
 use borrow.Author.Needs.{needs}
 use native.Mathlib.Omega.{arith}
 use Prim.Native.Nat.{ℕ, _+_, _-_, _≤_}
+use mathlib.Core.Path.{ap}
 use mathlib.Core.List.{List, _++_, append-assoc}
 use denote.Ref.{now}
 use lib.ListN.{length, length-append}
@@ -26,10 +27,12 @@ middle s = tabbed word.sets
 abbrev last : tie.Start → List ℕ
 last s = ended (numeral (s .args .records))
 
+most : (s : tie.Start) → length (head s ++ (middle s ++ last s)) ≤ 53
+most s =
+    rw (nodes-parts (s .args .nodes) (s .args .records)) at (nodes-longest (s .args .nodes) (s .args .records) (omega arith) (omega arith))
+
 room-for : (s : tie.Start) → length (head s ++ (middle s ++ last s)) ≤ length (now (s .args .out))
-room-for s =
-    let most = rw (nodes-parts (s .args .nodes) (s .args .records)) at (nodes-longest (s .args .nodes) (s .args .records) (omega arith) (omega arith)) in
-    omega (arith, most)
+room-for s = omega (arith, most s)
 
 fits : (s : tie.Start) → length (head s) + length (middle s) ≤ length (now (s .args .out))
 fits s = first-two (head s) (middle s) (last s) (now (s .args .out)) (room-for s)
@@ -132,7 +135,8 @@ returns : tie.Need-returns
 returns c =
     let p = c .before .before in
     let s = p .before .before .before .before .before .before .before .before .before .before .before .before .before in
-    rw (nodes-parts (s .args .nodes) (s .args .records), ← append-assoc (head s) (middle s) (last s)) (third p)
+    let e = append-assoc (head s) (middle s) (last s) in
+    record { written = rw (nodes-parts (s .args .nodes) (s .args .records), ← e) (third p); within = omega (arith, third p .count, most s, ap length e) }
 
 pub nodes-line-spec : {M : Type 1} → statement M
 nodes-line-spec =

@@ -23,10 +23,12 @@ head s = numbered word.refused (s .args .number)
 abbrev last : tie.Start → List ℕ
 last s = ended (numeral (s .args .place))
 
+most : (s : tie.Start) → length (head s ++ last s) ≤ 50
+most s =
+    rw (refused-parts (s .args .number) (s .args .place)) at (refused-longest (s .args .number) (s .args .place) (omega arith) (omega arith))
+
 room-for : (s : tie.Start) → length (head s ++ last s) ≤ length (now (s .args .out))
-room-for s =
-    let most = rw (refused-parts (s .args .number) (s .args .place)) at (refused-longest (s .args .number) (s .args .place) (omega arith) (omega arith)) in
-    omega (arith, most)
+room-for s = omega (arith, most s)
 
 fits : (s : tie.Start) → length (head s) + length (last s) ≤ length (now (s .args .out))
 fits s = both (head s) (last s) (now (s .args .out)) (room-for s)
@@ -82,7 +84,7 @@ returns : tie.Need-returns
 returns c =
     let p = c .before .before in
     let s = p .before .before .before .before .before .before .before .before in
-    rw (refused-parts (s .args .number) (s .args .place)) (second p)
+    record { written = rw (refused-parts (s .args .number) (s .args .place)) (second p); within = omega (arith, second p .count, most s) }
 
 pub refused-line-spec : {M : Type 1} → statement M
 refused-line-spec =

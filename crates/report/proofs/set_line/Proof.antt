@@ -22,10 +22,12 @@ head s = tabbed (now (s .args .letter))
 abbrev last : tie.Start → List ℕ
 last s = lastText (s .args .set)
 
+most : (s : tie.Start) → length (head s ++ last s) ≤ 184
+most s =
+    rw (set-parts (now (s .args .letter)) (s .args .set)) at (set-longest (now (s .args .letter)) (s .args .set) (s .pre .1))
+
 room-for : (s : tie.Start) → length (head s ++ last s) ≤ length (now (s .args .out))
-room-for s =
-    let most = rw (set-parts (now (s .args .letter)) (s .args .set)) at (set-longest (now (s .args .letter)) (s .args .set) (s .pre .1)) in
-    omega (arith, most)
+room-for s = omega (arith, most s)
 
 fits : (s : tie.Start) → length (head s) + length (last s) ≤ length (now (s .args .out))
 fits s = both (head s) (last s) (now (s .args .out)) (room-for s)
@@ -78,7 +80,7 @@ returns : tie.Need-returns
 returns c =
     let p = c .before .before in
     let s = p .before .before .before .before .before .before .before .before in
-    rw (set-parts (now (s .args .letter)) (s .args .set)) (second p)
+    record { written = rw (set-parts (now (s .args .letter)) (s .args .set)) (second p); within = omega (arith, second p .count, most s) }
 
 pub set-line-spec : {M : Type 1} → statement M
 set-line-spec =

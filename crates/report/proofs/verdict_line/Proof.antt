@@ -2,6 +2,7 @@
 use borrow.Author.Needs.{needs}
 use native.Mathlib.Omega.{arith}
 use Prim.Native.Nat.{ℕ, _+_, _-_, _≤_}
+use mathlib.Core.Path.{ap}
 use mathlib.Core.List.{List, _++_, append-assoc}
 use denote.Ref.{now}
 use lib.ListN.{length, length-append}
@@ -27,11 +28,13 @@ middle s = numbered (now (s .args .answer)) (s .args .visits)
 abbrev last : tie.Start → List ℕ
 last s = tabbed (memberText (s .args .first)) ++ lastText (s .args .second)
 
-room-for : (s : tie.Start) → length (head s ++ (middle s ++ last s)) ≤ length (now (s .args .out))
-room-for s =
+most : (s : tie.Start) → length (head s ++ (middle s ++ last s)) ≤ 418
+most s =
     let a = s .args in
-    let most = rw (verdict-parts (s .args .number) (now (s .args .answer)) (s .args .visits) (s .args .first) (s .args .second)) at (verdict-longest (a .number) (now (a .answer)) (a .visits) (a .first) (a .second) (omega arith) (s .pre .1) (omega arith)) in
-    omega (arith, most)
+    rw (verdict-parts (s .args .number) (now (s .args .answer)) (s .args .visits) (s .args .first) (s .args .second)) at (verdict-longest (a .number) (now (a .answer)) (a .visits) (a .first) (a .second) (omega arith) (s .pre .1) (omega arith))
+
+room-for : (s : tie.Start) → length (head s ++ (middle s ++ last s)) ≤ length (now (s .args .out))
+room-for s = omega (arith, most s)
 
 fits : (s : tie.Start) → length (head s) + length (middle s) ≤ length (now (s .args .out))
 fits s = first-two (head s) (middle s) (last s) (now (s .args .out)) (room-for s)
@@ -131,7 +134,8 @@ returns : tie.Need-returns
 returns c =
     let p = c .before .before in
     let s = p .before .before .before .before .before .before .before .before .before .before .before .before .before in
-    rw (verdict-parts (s .args .number) (now (s .args .answer)) (s .args .visits) (s .args .first) (s .args .second), ← append-assoc (head s) (middle s) (last s)) (third p)
+    let e = append-assoc (head s) (middle s) (last s) in
+    record { written = rw (verdict-parts (s .args .number) (now (s .args .answer)) (s .args .visits) (s .args .first) (s .args .second), ← e) (third p); within = omega (arith, third p .count, most s, ap length e) }
 
 pub verdict-line-spec : {M : Type 1} → statement M
 verdict-line-spec =
