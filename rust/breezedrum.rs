@@ -1,0 +1,86 @@
+//! Breezedrum from Rust: safe functions over the static library (`rt staticlib doors`). Every function takes any input; an answer is a
+//! `Reply`, the number of document 01's table and its fields, 0 where the number does not name a field. A number above 0 leaves every
+//! lent buffer as it was.
+
+#[repr(C)]
+#[derive(Clone, Copy, Debug, Default, PartialEq, Eq)]
+pub struct Reply {
+    pub number: u64,
+    pub place: u64,
+    pub nodes: u64,
+    pub records: u64,
+    /// 1 yes, 0 no
+    pub answer: u64,
+    pub set: u64,
+    pub rounds: u64,
+    pub first: u64,
+    pub second: u64,
+    pub count: u64,
+    pub visits: u64,
+}
+
+mod doors {
+    use super::Reply;
+    extern "C" {
+        pub fn breezedrum_check(table: *const u64, words: usize) -> Reply;
+        pub fn breezedrum_read_sheet(sheet: *const u8, bytes: usize, table: *mut u64, words: usize) -> Reply;
+        pub fn breezedrum_write_sheet(table: *const u64, words: usize, sheet: *mut u8, bytes: usize) -> Reply;
+        pub fn breezedrum_quorum(table: *const u64, words: usize, out: u64, set: u64) -> Reply;
+        pub fn breezedrum_greatest(table: *const u64, words: usize, out: u64, set: u64) -> Reply;
+        pub fn breezedrum_blocks(table: *const u64, words: usize, set: u64, node: u64) -> Reply;
+        pub fn breezedrum_verdict(table: *const u64, words: usize, out: u64, allowance: u64) -> Reply;
+        pub fn breezedrum_minimal(table: *const u64, words: usize, allowance: u64, sets: *mut u64, room: usize) -> Reply;
+        pub fn breezedrum_blocking(table: *const u64, words: usize, allowance: u64, sets: *mut u64, room: usize) -> Reply;
+        pub fn breezedrum_intact(table: *const u64, words: usize, ill: u64, allowance: u64) -> Reply;
+    }
+}
+
+/// Checks a packed table.
+pub fn check(table: &[u64]) -> Reply {
+    unsafe { doors::breezedrum_check(table.as_ptr(), table.len()) }
+}
+
+/// Reads a sheet into `table`.
+pub fn read_sheet(sheet: &[u8], table: &mut [u64]) -> Reply {
+    unsafe { doors::breezedrum_read_sheet(sheet.as_ptr(), sheet.len(), table.as_mut_ptr(), table.len()) }
+}
+
+/// Writes a table as a sheet into `sheet`.
+pub fn write_sheet(table: &[u64], sheet: &mut [u8]) -> Reply {
+    unsafe { doors::breezedrum_write_sheet(table.as_ptr(), table.len(), sheet.as_mut_ptr(), sheet.len()) }
+}
+
+/// Is `set` a quorum, with `out` counted out?
+pub fn is_quorum(table: &[u64], out: u64, set: u64) -> Reply {
+    unsafe { doors::breezedrum_quorum(table.as_ptr(), table.len(), out, set) }
+}
+
+/// The greatest quorum within `set`, with `out` counted out, and its rounds.
+pub fn greatest(table: &[u64], out: u64, set: u64) -> Reply {
+    unsafe { doors::breezedrum_greatest(table.as_ptr(), table.len(), out, set) }
+}
+
+/// Does `set` block `node`?
+pub fn blocks(table: &[u64], set: u64, node: u64) -> Reply {
+    unsafe { doors::breezedrum_blocks(table.as_ptr(), table.len(), set, node) }
+}
+
+/// Do all quorums intersect, with `out` counted out?
+pub fn verdict(table: &[u64], out: u64, allowance: u64) -> Reply {
+    unsafe { doors::breezedrum_verdict(table.as_ptr(), table.len(), out, allowance) }
+}
+
+/// The minimal quorums, in the listing order, into `sets`.
+pub fn minimal(table: &[u64], allowance: u64, sets: &mut [u64]) -> Reply {
+    unsafe { doors::breezedrum_minimal(table.as_ptr(), table.len(), allowance, sets.as_mut_ptr(), sets.len()) }
+}
+
+/// The minimal blocking sets, in the listing order, into `sets`.
+pub fn blocking(table: &[u64], allowance: u64, sets: &mut [u64]) -> Reply {
+    unsafe { doors::breezedrum_blocking(table.as_ptr(), table.len(), allowance, sets.as_mut_ptr(), sets.len()) }
+}
+
+/// The nodes that stay intact for the ill set `ill`.
+pub fn intact(table: &[u64], ill: u64, allowance: u64) -> Reply {
+    unsafe { doors::breezedrum_intact(table.as_ptr(), table.len(), ill, allowance) }
+}
