@@ -25,7 +25,7 @@ use Rattle.answers.specs.declared.Listed.{Listed}
 use Rattle.answers.specs.declared.Listed.the-variants.{Sets, Unsplit}
 use Rattle.answers.specs.Said.{listedSays}
 use Rattle.answers.proofs.Exact.{listed-exact}
-use Rattle.lists.specs.Lists.{Promised}
+use Rattle.lists.specs.Lists.{Promised, ListsMinimal, ListsBlocking}
 
 -- ---- two results that both fit are equal
 pub exact : (r : Reply) (own before a b : List ℕ) (x y : Listed) → Promised r own before a x → Promised r own before b y → (x ≡ y) × (a ≡ b)
@@ -118,10 +118,10 @@ module _ (t : List ℕ) (allowance : ℕ) (before after : List ℕ) where
   s = satisfied t
 
   abbrev Minimals : Listed → Type 0
-  Minimals o = Promised (minimalReply t allowance (length before)) (listPuts (list (minimalTree n s))) before after o
+  Minimals o = ListsMinimal t allowance before after o
 
   abbrev Blockings : Listed → Type 0
-  Blockings o = Promised (blockingReply t allowance (length before)) (listPuts (list (blockingTree n s))) before after o
+  Blockings o = ListsBlocking t allowance before after o
 
   -- On number 0 the front of the list is every minimal quorum, in the listing order.
   pub minimal-all : (count v : ℕ) → Minimals (Sets count v) → All (minimalQuorums n s) (visits (minimalTree n s)) allowance before after count v

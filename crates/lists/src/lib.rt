@@ -5,11 +5,10 @@ ghost use mathlib.Core.Path.{_≡_};
 ghost use mathlib.Core.List.{_++_};
 ghost use Prim.Native.Nat.{_≤_};
 ghost use lib.ListN.{length, take, drop};
-ghost use Rattle.meanings.specs.Table.{nodes, satisfied};
 ghost use Rattle.meanings.specs.Faults.{check};
-ghost use Rattle.meanings.specs.Trees.{list, minimalTree, blockingTree};
-ghost use Rattle.meanings.specs.Questions.{onCheck, listSays, listPuts, minimalReply, blockingReply};
-ghost use Rattle.lists.specs.Lists.{Ready, Promised, treeOf};
+ghost use Rattle.meanings.specs.Trees.{list};
+ghost use Rattle.meanings.specs.Questions.{onCheck, listSays, listPuts};
+ghost use Rattle.lists.specs.Lists.{Ready, Promised, ListsMinimal, ListsBlocking, treeOf};
 use answers::Checked;
 use answers::Listed;
 use visits::Sought;
@@ -71,14 +70,14 @@ fn answer(table: &[u64], sought: Sought, allowance: u64, lent: &mut [u64]) -> Li
 
 // The minimal quorums of a table, in the listing order, at the front of the lent list.
 pub fn minimal_quorums(table: &[u64], allowance: u64, sets: &mut [u64]) -> Listed
-    ensures { λ o. ⌜ Promised (minimalReply (now (table .entry)) allowance (length (now (sets .entry)))) (listPuts (list (minimalTree (nodes (now (table .entry))) (satisfied (now (table .entry)))))) (now (sets .entry)) (now (sets .exit)) o ⌝ }
+    ensures { λ o. ⌜ ListsMinimal (now (table .entry)) allowance (now (sets .entry)) (now (sets .exit)) o ⌝ }
 {
     answer(table, Sought::Quorums, allowance, sets)
 }
 
 // The minimal blocking sets of a table, in the listing order, at the front of the lent list.
 pub fn blocking_sets(table: &[u64], allowance: u64, sets: &mut [u64]) -> Listed
-    ensures { λ o. ⌜ Promised (blockingReply (now (table .entry)) allowance (length (now (sets .entry)))) (listPuts (list (blockingTree (nodes (now (table .entry))) (satisfied (now (table .entry)))))) (now (sets .entry)) (now (sets .exit)) o ⌝ }
+    ensures { λ o. ⌜ ListsBlocking (now (table .entry)) allowance (now (sets .entry)) (now (sets .exit)) o ⌝ }
 {
     answer(table, Sought::Blocking, allowance, sets)
 }
