@@ -1,0 +1,244 @@
+// Asks every public operation the stored questions of standard input, and prints what came back.
+//
+// A case is the operation (1 byte), two numbers (8 bytes each), the room lent (2 bytes), the length of what follows (2 bytes) and that
+// many bytes: a sheet, or the words of a table at 8 bytes each. Numbers stand lowest byte first. The line of a case has the eleven fields
+// of its reply, and then the words that were written; the text of a written sheet follows its line.
+use doors::Reply;
+use libc::STDIN_FILENO;
+use libc::STDOUT_FILENO;
+use std::num::wrapping_add_usize;
+
+// A byte as a number.
+fn wide(x: u8) -> u64 {
+    x as u64
+}
+
+// The byte at a place, 0 past the end.
+fn byte(s: &[u8], at: usize) -> u64 {
+    if at < s.len() { wide(s[at]) } else { 0 }
+}
+
+// The number of two bytes.
+fn two(s: &[u8], at: usize) -> u64 {
+    byte(s, at) | byte(s, wrapping_add_usize(at, 1)) << 8
+}
+
+// The number of four bytes.
+fn four(s: &[u8], at: usize) -> u64 {
+    two(s, at) | two(s, wrapping_add_usize(at, 2)) << 16
+}
+
+// The number of eight bytes.
+fn eight(s: &[u8], at: usize) -> u64 {
+    four(s, at) | four(s, wrapping_add_usize(at, 4)) << 32
+}
+
+// Reads words of eight bytes.
+fn load(s: &[u8], words: &mut [u64; 520]) {
+    let mut at = 0;
+    let mut i = 0;
+    while i < 520 {
+        words[i] = eight(s, at);
+        at = wrapping_add_usize(at, 8);
+        i += 1;
+    }
+}
+
+// Writes a tab and a number.
+fn put(x: u64) {
+    io::write_all(STDOUT_FILENO, b"\t");
+    io::print_decimal(STDOUT_FILENO, x);
+}
+
+// Writes the fields of a reply.
+fn put_reply(r: Reply) {
+    io::print_decimal(STDOUT_FILENO, r.number);
+    put(r.place);
+    put(r.nodes);
+    put(r.records);
+    put(r.answer);
+    put(r.set);
+    put(r.rounds);
+    put(r.first);
+    put(r.second);
+    put(r.count);
+    put(r.visits);
+}
+
+// Ends a line.
+fn end_line() {
+    io::write_all(STDOUT_FILENO, b"\n");
+}
+
+// Writes the first words of a list.
+fn put_words(list: &[u64; 520], count: u64) {
+    let mut i = 0;
+    while i < 520 {
+        if i as u64 >= count {
+            return;
+        }
+        put(list[i]);
+        i += 1;
+    }
+}
+
+// The line of a list: the words stand there where the question was answered.
+fn put_list(r: Reply, list: &[u64; 520]) {
+    put_reply(r);
+    if r.number == 0 {
+        put_words(list, r.count);
+    }
+    end_line();
+}
+
+// A question that writes nothing.
+fn plain(op: u64, table: &[u64], a: u64, b: u64) {
+    match op {
+        0 => put_reply(doors::breezedrum_check(table)),
+        3 => put_reply(doors::breezedrum_quorum(table, a, b)),
+        4 => put_reply(doors::breezedrum_greatest(table, a, b)),
+        5 => put_reply(doors::breezedrum_blocks(table, a, b)),
+        6 => put_reply(doors::breezedrum_verdict(table, a, b)),
+        _ => put_reply(doors::breezedrum_intact(table, a, b)),
+    }
+    end_line();
+}
+
+// The minimal quorums, with a list lent.
+fn minimal(table: &[u64], allowance: u64, room: usize) {
+    if room > 520 {
+        return;
+    }
+    let from = 0;
+    let mut list = [0u64; 520];
+    let r = doors::breezedrum_minimal(table, allowance, &mut list[from..room]);
+    put_list(r, &list);
+}
+
+// The minimal blocking sets, with a list lent.
+fn blocking(table: &[u64], allowance: u64, room: usize) {
+    if room > 520 {
+        return;
+    }
+    let from = 0;
+    let mut list = [0u64; 520];
+    let r = doors::breezedrum_blocking(table, allowance, &mut list[from..room]);
+    put_list(r, &list);
+}
+
+// A sheet, with a list lent.
+fn read(sheet: &[u8], room: usize) {
+    if room > 520 {
+        return;
+    }
+    let from = 0;
+    let mut list = [0u64; 520];
+    let r = doors::breezedrum_read_sheet(sheet, &mut list[from..room]);
+    put_list(r, &list);
+}
+
+// Writes the first bytes of a text.
+fn put_text(text: &[u8; 4096], count: u64) {
+    if count <= 4096 {
+        let from = 0;
+        let n = count as usize;
+        let whole = &text[..];
+        io::write_all(STDOUT_FILENO, &whole[from..n]);
+    }
+}
+
+// A table to be written as a sheet, with a buffer lent.
+fn write(table: &[u64], room: usize) {
+    if room > 4096 {
+        return;
+    }
+    let from = 0;
+    let mut text = [0u8; 4096];
+    let r = doors::breezedrum_write_sheet(table, &mut text[from..room]);
+    put_reply(r);
+    end_line();
+    if r.number == 0 {
+        put_text(&text, r.count);
+    }
+}
+
+// A question on a table.
+fn ask(op: u64, table: &[u64], a: u64, b: u64, room: usize) {
+    match op {
+        2 => write(table, room),
+        7 => minimal(table, a, room),
+        8 => blocking(table, a, room),
+        _ => plain(op, table, a, b),
+    }
+}
+
+// A question on the first words of a list.
+fn ask_first(op: u64, words: &[u64; 520], count: usize, a: u64, b: u64, room: usize) {
+    if count <= 520 {
+        let from = 0;
+        let whole = &words[..];
+        ask(op, &whole[from..count], a, b, room);
+    }
+}
+
+// A question on the words that the bytes spell.
+fn ask_words(op: u64, payload: &[u8], a: u64, b: u64, room: usize) {
+    let mut words = [0u64; 520];
+    load(payload, &mut words);
+    ask_first(op, &words, payload.len() / 8, a, b, room);
+}
+
+// A case in its parts.
+fn run(op: u64, payload: &[u8], a: u64, b: u64, room: usize) {
+    if op == 1 {
+        read(payload, room);
+    } else {
+        ask_words(op, payload, a, b, room);
+    }
+}
+
+// The case at the start of the bytes: how many it takes, or all where they are no case.
+fn case(s: &[u8]) -> usize {
+    let all = s.len();
+    if all < 21 {
+        return all;
+    }
+    let length = two(s, 19) as usize;
+    if length > all - 21 {
+        return all;
+    }
+    let end = 21 + length;
+    run(
+        byte(s, 0),
+        &s[21..end],
+        eight(s, 1),
+        eight(s, 9),
+        two(s, 17) as usize,
+    );
+    end
+}
+
+// The case at a place, and the place after it.
+fn step(s: &[u8], at: usize) -> usize {
+    if at < s.len() {
+        wrapping_add_usize(at, case(&s[at..]))
+    } else {
+        at
+    }
+}
+
+// All cases: each takes 21 bytes or more of 65,536.
+fn all_cases(s: &[u8]) {
+    let mut at = 0;
+    let mut left: u64 = 4096;
+    while left > 0 {
+        at = step(s, at);
+        left -= 1;
+    }
+}
+
+fn main() {
+    let mut buf = io::large_buffer();
+    let n = io::read_full(STDIN_FILENO, &mut buf);
+    all_cases(&buf[..n]);
+}
