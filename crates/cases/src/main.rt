@@ -2,11 +2,17 @@
 //
 // A case is the operation (1 byte), two numbers (8 bytes each), the room lent (2 bytes), the length of what follows (2 bytes) and that
 // many bytes: a sheet, or the words of a table at 8 bytes each. Numbers stand lowest byte first. The line of a case has the eleven fields
-// of its reply, and then the words that were written; the text of a written sheet follows its line.
+// of its reply, and then the words that were written; the text of a written sheet follows its line. What else changed in the lent buffer
+// would be printed too.
 use doors::Reply;
 use libc::STDIN_FILENO;
 use libc::STDOUT_FILENO;
 use std::num::wrapping_add_usize;
+
+// What a lent list holds, and a lent text.
+const BLANK_WORD: u64 = 0xA5A5A5A5A5A5A5A5;
+
+const BLANK_BYTE: u8 = 0xA5;
 
 // A byte as a number.
 fn wide(x: u8) -> u64 {
@@ -70,24 +76,45 @@ fn end_line() {
     io::write_all(STDOUT_FILENO, b"\n");
 }
 
-// Writes the first words of a list.
+// How much of a lent buffer a reply claims.
+fn claimed(r: Reply) -> u64 {
+    if r.number == 0 { r.count } else { 0 }
+}
+
+// Writes the first words of a list, and any other that is not as it was lent.
 fn put_words(list: &[u64; 520], count: u64) {
     let mut i = 0;
     while i < 520 {
-        if i as u64 >= count {
-            return;
+        let word = list[i];
+        if (i as u64) < count || word != BLANK_WORD {
+            put(word);
         }
-        put(list[i]);
         i += 1;
     }
 }
 
-// The line of a list: the words stand there where the question was answered.
+// Writes a byte.
+fn put_byte(x: u8) {
+    let one = [x];
+    io::write_all(STDOUT_FILENO, &one);
+}
+
+// Writes the first bytes of a text, and any other that is not as it was lent.
+fn put_bytes(text: &[u8; 4096], count: u64) {
+    let mut i = 0;
+    while i < 4096 {
+        let x = text[i];
+        if (i as u64) < count || x != BLANK_BYTE {
+            put_byte(x);
+        }
+        i += 1;
+    }
+}
+
+// The line of a list.
 fn put_list(r: Reply, list: &[u64; 520]) {
     put_reply(r);
-    if r.number == 0 {
-        put_words(list, r.count);
-    }
+    put_words(list, claimed(r));
     end_line();
 }
 
@@ -110,7 +137,7 @@ fn minimal(table: &[u64], allowance: u64, room: usize) {
         return;
     }
     let from = 0;
-    let mut list = [0u64; 520];
+    let mut list = [BLANK_WORD; 520];
     let r = doors::breezedrum_minimal(table, allowance, &mut list[from..room]);
     put_list(r, &list);
 }
@@ -121,7 +148,7 @@ fn blocking(table: &[u64], allowance: u64, room: usize) {
         return;
     }
     let from = 0;
-    let mut list = [0u64; 520];
+    let mut list = [BLANK_WORD; 520];
     let r = doors::breezedrum_blocking(table, allowance, &mut list[from..room]);
     put_list(r, &list);
 }
@@ -132,19 +159,9 @@ fn read(sheet: &[u8], room: usize) {
         return;
     }
     let from = 0;
-    let mut list = [0u64; 520];
+    let mut list = [BLANK_WORD; 520];
     let r = doors::breezedrum_read_sheet(sheet, &mut list[from..room]);
     put_list(r, &list);
-}
-
-// Writes the first bytes of a text.
-fn put_text(text: &[u8; 4096], count: u64) {
-    if count <= 4096 {
-        let from = 0;
-        let n = count as usize;
-        let whole = &text[..];
-        io::write_all(STDOUT_FILENO, &whole[from..n]);
-    }
 }
 
 // A table to be written as a sheet, with a buffer lent.
@@ -153,13 +170,11 @@ fn write(table: &[u64], room: usize) {
         return;
     }
     let from = 0;
-    let mut text = [0u8; 4096];
+    let mut text = [BLANK_BYTE; 4096];
     let r = doors::breezedrum_write_sheet(table, &mut text[from..room]);
     put_reply(r);
     end_line();
-    if r.number == 0 {
-        put_text(&text, r.count);
-    }
+    put_bytes(&text, claimed(r));
 }
 
 // A question on a table.
