@@ -218,13 +218,17 @@ fn case(s: &[u8]) -> usize {
     if all < 21 {
         return all;
     }
+    let op = byte(s, 0);
+    if op > 9 {
+        return all;
+    }
     let length = two(s, 19) as usize;
     if length > all - 21 {
         return all;
     }
     let end = 21 + length;
     run(
-        byte(s, 0),
+        op,
         &s[21..end],
         eight(s, 1),
         eight(s, 9),
