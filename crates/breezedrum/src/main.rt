@@ -35,25 +35,28 @@ fn show(line: &[u8; 512], count: usize)
     write_first(line, count);
 }
 
+// A bad sheet: one line.
 fn show_refused(read: Read) {
     let mut line = [0u8; 512];
     let k = report::put_refused(&mut line, read);
     show(&line, k);
 }
 
+// The nodes and records of the table.
 fn show_nodes(table: &[u64]) {
     let mut line = [0u8; 512];
     let k = report::put_nodes(&mut line, faults::check_table(table));
     show(&line, k);
 }
 
+// Do all quorums intersect?
 fn show_verdict(table: &[u64]) {
     let mut line = [0u8; 512];
     let k = report::put_verdict(&mut line, verdict::intersect(table, 0, ALLOWANCE));
     show(&line, k);
 }
 
-// A line for each of the first sets.
+// A line for each of the first sets, which are minimal quorums.
 fn show_quorums(sets: &[u64; 1024], count: usize)
     requires { ⌜ count ≤ 1024 ⌝ }
 {
@@ -66,6 +69,7 @@ fn show_quorums(sets: &[u64; 1024], count: usize)
     }
 }
 
+// A line for each of the first sets, which are minimal blocking sets.
 fn show_blocks(sets: &[u64; 1024], count: usize)
     requires { ⌜ count ≤ 1024 ⌝ }
 {
@@ -104,6 +108,7 @@ fn show_blocking(table: &[u64]) {
     show_blocks(&sets, count as usize);
 }
 
+// The table's words are those that the sheet was read into; a bad sheet has none.
 fn main() {
     let mut table = [0u64; 512];
     let read = read_table(&mut table);

@@ -137,7 +137,8 @@ good-sheet s h a =
     rw (q, b, a .check-says, a .verdict-says, eq-eqb (readReply s mostWords .number) 0 h)
 
 -- a bad sheet: the line of what its reader says
-pub bad-sheet : (s : List ℕ) (r : Read) → readSays r ≡ readReply s mostWords → (readReply s mostWords .number ≡ 0 → ⊥) → refusedLine (readSays r) ≡ reportOf s
+pub bad-sheet : (s : List ℕ) (r : Read) → readSays r ≡ readReply s mostWords → (readReply s mostWords .number ≡ 0 → ⊥)
+    → refusedLine (readSays r) ≡ reportOf s
 unfolding reportOf
 bad-sheet s r e n = rw (e, ne-eqb (readReply s mostWords .number) 0 n)
 

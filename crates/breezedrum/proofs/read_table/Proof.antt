@@ -26,8 +26,14 @@ read-sheet-requires c κs = search needs
 returns : tie.Need-returns
 returns c =
     let r = c .before .before .before .before in
+    let n = r .read-full .result in
     let b = r .read-full .last .1 .0 in
-    record { sheet = take (r .read-full .result) b; most = omega (arith, length-take (r .read-full .result) b); promise = c .read-sheet .ensures; same = search needs }
+    record {
+      sheet = take n b;
+      most = omega (arith, length-take n b);
+      promise = c .read-sheet .ensures;
+      same = search needs;
+    }
 
 pub read-table-spec : {M : Type 1} → statement M
 read-table-spec =

@@ -30,7 +30,8 @@ last s = ended (numeral (s .args .visits))
 most : (s : tie.Start) → length (head s ++ (middle s ++ last s)) ≤ 72
 most s =
     let a = s .args in
-    rw (list-parts (now (s .args .name)) (s .args .number) (s .args .count) (s .args .visits)) at (list-longest (now (a .name)) (a .number) (a .count) (a .visits) (s .pre .1) (omega arith) (omega arith) (omega arith))
+    let e = list-parts (now (a .name)) (a .number) (a .count) (a .visits) in
+    rw e at (list-longest (now (a .name)) (a .number) (a .count) (a .visits) (s .pre .1) (omega arith) (omega arith) (omega arith))
 
 room-for : (s : tie.Start) → length (head s ++ (middle s ++ last s)) ≤ length (now (s .args .out))
 room-for s = omega (arith, most s)
@@ -130,8 +131,12 @@ returns : tie.Need-returns
 returns c =
     let p = c .before .before in
     let s = p .before .before .before .before .before .before .before .before .before .before .before .before in
+    let a = s .args in
     let e = append-assoc (head s) (middle s) (last s) in
-    record { written = rw (list-parts (now (s .args .name)) (s .args .number) (s .args .count) (s .args .visits), ← e) (third p); within = omega (arith, third p .count, most s, ap length e) }
+    record {
+      written = rw (list-parts (now (a .name)) (a .number) (a .count) (a .visits), ← e) (third p);
+      within = omega (arith, third p .count, most s, ap length e);
+    }
 
 pub list-line-spec : {M : Type 1} → statement M
 list-line-spec =

@@ -136,7 +136,10 @@ returns c =
     let p = c .before .before in
     let s = p .before .before .before .before .before .before .before .before .before .before .before .before .before in
     let e = append-assoc (head s) (middle s) (last s) in
-    record { written = rw (nodes-parts (s .args .nodes) (s .args .records), ← e) (third p); within = omega (arith, third p .count, most s, ap length e) }
+    record {
+      written = rw (nodes-parts (s .args .nodes) (s .args .records), ← e) (third p);
+      within = omega (arith, third p .count, most s, ap length e);
+    }
 
 pub nodes-line-spec : {M : Type 1} → statement M
 nodes-line-spec =

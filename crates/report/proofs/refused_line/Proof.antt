@@ -84,7 +84,10 @@ returns : tie.Need-returns
 returns c =
     let p = c .before .before in
     let s = p .before .before .before .before .before .before .before .before in
-    record { written = rw (refused-parts (s .args .number) (s .args .place)) (second p); within = omega (arith, second p .count, most s) }
+    record {
+      written = rw (refused-parts (s .args .number) (s .args .place)) (second p);
+      within = omega (arith, second p .count, most s);
+    }
 
 pub refused-line-spec : {M : Type 1} → statement M
 refused-line-spec =

@@ -80,7 +80,10 @@ returns : tie.Need-returns
 returns c =
     let p = c .before .before in
     let s = p .before .before .before .before .before .before .before .before in
-    record { written = rw (set-parts (now (s .args .letter)) (s .args .set)) (second p); within = omega (arith, second p .count, most s) }
+    record {
+      written = rw (set-parts (now (s .args .letter)) (s .args .set)) (second p);
+      within = omega (arith, second p .count, most s);
+    }
 
 pub set-line-spec : {M : Type 1} → statement M
 set-line-spec =

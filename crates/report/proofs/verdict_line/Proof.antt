@@ -31,7 +31,8 @@ last s = tabbed (memberText (s .args .first)) ++ lastText (s .args .second)
 most : (s : tie.Start) → length (head s ++ (middle s ++ last s)) ≤ 418
 most s =
     let a = s .args in
-    rw (verdict-parts (s .args .number) (now (s .args .answer)) (s .args .visits) (s .args .first) (s .args .second)) at (verdict-longest (a .number) (now (a .answer)) (a .visits) (a .first) (a .second) (omega arith) (s .pre .1) (omega arith))
+    let e = verdict-parts (a .number) (now (a .answer)) (a .visits) (a .first) (a .second) in
+    rw e at (verdict-longest (a .number) (now (a .answer)) (a .visits) (a .first) (a .second) (omega arith) (s .pre .1) (omega arith))
 
 room-for : (s : tie.Start) → length (head s ++ (middle s ++ last s)) ≤ length (now (s .args .out))
 room-for s = omega (arith, most s)
@@ -134,8 +135,12 @@ returns : tie.Need-returns
 returns c =
     let p = c .before .before in
     let s = p .before .before .before .before .before .before .before .before .before .before .before .before .before in
+    let a = s .args in
     let e = append-assoc (head s) (middle s) (last s) in
-    record { written = rw (verdict-parts (s .args .number) (now (s .args .answer)) (s .args .visits) (s .args .first) (s .args .second), ← e) (third p); within = omega (arith, third p .count, most s, ap length e) }
+    record {
+      written = rw (verdict-parts (a .number) (now (a .answer)) (a .visits) (a .first) (a .second), ← e) (third p);
+      within = omega (arith, third p .count, most s, ap length e);
+    }
 
 pub verdict-line-spec : {M : Type 1} → statement M
 verdict-line-spec =
