@@ -7,10 +7,8 @@ use borrow.Author.Tests.{le-ltb}
 use lib.ListN.{length, take, drop}
 use lib.Seq.{take-at}
 use Rattle.sets.specs.Sets.{nobody}
-use Rattle.meanings.specs.Table.{nodes, satisfied}
-use Rattle.meanings.specs.Trees.{list, minimalTree, blockingTree}
 use Rattle.meanings.specs.Replies.{Reply, reply, value, valueIn, _is_, Count}
-use Rattle.meanings.specs.Questions.{checkReply, minimalReply, blockingReply, listPuts}
+use Rattle.meanings.specs.Questions.{checkReply}
 use Rattle.answers.specs.declared.Read.{Read}
 use Rattle.answers.specs.declared.Read.the-variants.{Words}
 use Rattle.answers.specs.declared.Checked.{Checked}
@@ -21,7 +19,7 @@ use Rattle.sheets.specs.Sheets.{readReply, readPuts}
 use Rattle.sheets.specs.Promises.{ReadPromise}
 use Rattle.sheets.proofs.Numbers.{answered}
 use Rattle.verdict.specs.Promise.{VerdictPromise}
-use Rattle.lists.specs.Lists.{Promised}
+use Rattle.lists.specs.Lists.{ListsMinimal, ListsBlocking}
 use Rattle.report.specs.Words as word
 use Rattle.report.specs.Report.{nodesLine, verdictLine, listLine, allowance, room, mostWords, reportOf}
 use Rattle.report.proofs.Whole.{setsAfter, good-sheet}
@@ -44,34 +42,36 @@ module _ (s before after : List ℕ) (r : Read) (p : ReadPromise s before after 
   pub table-read : take count after ≡ readPuts s
   table-read = rw (p .holds, number) (take-at (readPuts s) (drop (length (readPuts s)) before) count counted)
 
--- the four answers on the table that main lends: what was lent to the lists held `free` before, and holds their sets after
-module _ (s before after : List ℕ) (r : Read) (p : ReadPromise s before after r) (fits : length before ≡ mostWords) (count : ℕ) (e : r ≡ Words count)
-    (checked : Checked) (verdict : Verdict) (minimal blocking : Listed) (free quorums free′ blocks : List ℕ) where
-  abbrev table : List ℕ
-  table = take count after
+-- the four answers on the table that main lends; what it lends for the sets, `free` and `free′`, has room for 1,024
+module _
+    (s before after : List ℕ) (r : Read) (p : ReadPromise s before after r) (words : length before ≡ mostWords) (count : ℕ) (e : r ≡ Words count)
+    (checked : Checked) (verdict : Verdict) (minimal blocking : Listed) (free quorums free′ blocks : List ℕ)
+    (sets : length free ≡ room) (sets′ : length free′ ≡ room)
+  where
+    abbrev table : List ℕ
+    table = take count after
 
-  pub shown : checkedSays checked ≡ checkReply table → VerdictPromise table nobody allowance verdict
-      → Promised (minimalReply table allowance room) (listPuts (list (minimalTree (nodes table) (satisfied table)))) free quorums minimal
-      → Promised (blockingReply table allowance room) (listPuts (list (blockingTree (nodes table) (satisfied table)))) free′ blocks blocking
-      → nodesLine (checkedSays checked)
-      ++ (verdictLine (verdictSays verdict)
-      ++ ((listLine word.minimal (listedSays minimal) ++ setsAfter word.q minimal quorums)
-      ++ (listLine word.blocking (listedSays blocking) ++ setsAfter word.b blocking blocks)))
-      ≡ reportOf s
-  shown c v m b =
-      let t = table-read s before after r p count e in
-      good-sheet s (rw fits at (number s before after r p count e))
-      (record {
-        checked = checked;
-        verdict = verdict;
-        minimal = minimal;
-        blocking = blocking;
-        free = free;
-        quorums = quorums;
-        free′ = free′;
-        blocks = blocks;
-        check-says = rw t at c;
-        verdict-says = rw t at (v .told);
-        minimal-lists = record { says = rw t at (m .answers); lent = rw t at (m .lent) };
-        blocking-lists = record { says = rw t at (b .answers); lent = rw t at (b .lent) };
-      })
+    pub shown : checkedSays checked ≡ checkReply table → VerdictPromise table nobody allowance verdict
+        → ListsMinimal table allowance free quorums minimal → ListsBlocking table allowance free′ blocks blocking
+        → nodesLine (checkedSays checked)
+        ++ (verdictLine (verdictSays verdict)
+        ++ ((listLine word.minimal (listedSays minimal) ++ setsAfter word.q minimal quorums)
+        ++ (listLine word.blocking (listedSays blocking) ++ setsAfter word.b blocking blocks)))
+        ≡ reportOf s
+    shown c v m b =
+        let t = table-read s before after r p count e in
+        good-sheet s (rw words at (number s before after r p count e))
+        (record {
+          checked = checked;
+          verdict = verdict;
+          minimal = minimal;
+          blocking = blocking;
+          free = free;
+          quorums = quorums;
+          free′ = free′;
+          blocks = blocks;
+          check-says = rw t at c;
+          verdict-says = rw t at (v .told);
+          minimal-lists = record { says = rw (t, sets) at (m .answers); lent = rw (t, sets) at (m .lent) };
+          blocking-lists = record { says = rw (t, sets′) at (b .answers); lent = rw (t, sets′) at (b .lent) };
+        })
