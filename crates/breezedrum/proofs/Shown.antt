@@ -20,6 +20,7 @@ use Rattle.sheets.specs.Promises.{ReadPromise}
 use Rattle.sheets.proofs.Numbers.{answered}
 use Rattle.verdict.specs.Promise.{VerdictPromise}
 use Rattle.lists.specs.Lists.{ListsMinimal, ListsBlocking}
+use Rattle.lists.proofs.Means.{minimal-walked, blocking-walked}
 use Rattle.report.specs.Words as word
 use Rattle.report.specs.Report.{nodesLine, verdictLine, listLine, allowance, room, mostWords, reportOf}
 use Rattle.report.proofs.Whole.{setsAfter, good-sheet}
@@ -60,6 +61,8 @@ module _
         ≡ reportOf s
     shown c v m b =
         let t = table-read s before after r p count e in
+        let m′ = minimal-walked table allowance free quorums minimal m in
+        let b′ = blocking-walked table allowance free′ blocks blocking b in
         good-sheet s (rw words at (number s before after r p count e))
         (record {
           checked = checked;
@@ -72,6 +75,6 @@ module _
           blocks = blocks;
           check-says = rw t at c;
           verdict-says = rw t at (v .told);
-          minimal-lists = record { says = rw (t, sets) at (m .answers); lent = rw (t, sets) at (m .lent) };
-          blocking-lists = record { says = rw (t, sets′) at (b .answers); lent = rw (t, sets′) at (b .lent) };
+          minimal-lists = record { says = rw (t, sets) at (m′ .answers); lent = rw (t, sets) at (m′ .lent) };
+          blocking-lists = record { says = rw (t, sets′) at (b′ .answers); lent = rw (t, sets′) at (b′ .lent) };
         })

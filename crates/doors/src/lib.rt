@@ -3,10 +3,10 @@
 ghost use mathlib.Core.List.{[], _∷_};
 ghost use Rattle.meanings.specs.Replies.{reply, _is_, Place, Nodes, Records, Answer, Set, Rounds, First, Second, Count, Visits};
 ghost use Rattle.answers.specs.Said.{faultSays, checkedSays, readSays, wroteSays, judgedSays, greatestSays, verdictSays, listedSays, intactSays};
-ghost use Rattle.meanings.specs.Questions.{checkReply, quorumReply, greatestReply, blocksReply, verdictReply, minimalReply, blockingReply, intactReply, listPuts};
+ghost use Rattle.meanings.specs.Questions.{checkReply, quorumReply, greatestReply, blocksReply, verdictReply, minimalReply, blockingReply, intactReply};
 ghost use lib.ListN.{length};
 ghost use Rattle.meanings.specs.Table.{nodes as nodesOf, satisfied};
-ghost use Rattle.meanings.specs.Trees.{list, minimalTree, blockingTree};
+ghost use Rattle.meanings.specs.Quorums.{minimalQuorums, minimalBlockingSets};
 ghost use Rattle.sheets.specs.Sheets.{sheetText, readReply, readPuts, writeReply};
 ghost use Rattle.doors.specs.Doors.{Shows, Fills};
 use answers::Checked;
@@ -450,7 +450,7 @@ pub extern "C" fn breezedrum_write_sheet(table: &[u64], sheet: &mut [u8]) -> Rep
 // The minimal quorums, in the listing order, into a lent list of words.
 #[no_mangle]
 pub extern "C" fn breezedrum_minimal(table: &[u64], allowance: u64, sets: &mut [u64]) -> Reply
-    ensures { λ r. ⌜ Fills r (minimalReply (now (table .entry)) allowance (length (now (sets .entry)))) (listPuts (list (minimalTree (nodesOf (now (table .entry))) (satisfied (now (table .entry)))))) (now (sets .entry)) (now (sets .exit)) ⌝ }
+    ensures { λ r. ⌜ Fills r (minimalReply (now (table .entry)) allowance (length (now (sets .entry)))) (minimalQuorums (nodesOf (now (table .entry))) (satisfied (now (table .entry)))) (now (sets .entry)) (now (sets .exit)) ⌝ }
 {
     of_listed(lists::minimal_quorums(table, allowance, sets))
 }
@@ -458,7 +458,7 @@ pub extern "C" fn breezedrum_minimal(table: &[u64], allowance: u64, sets: &mut [
 // The minimal blocking sets, in the listing order, into a lent list of words.
 #[no_mangle]
 pub extern "C" fn breezedrum_blocking(table: &[u64], allowance: u64, sets: &mut [u64]) -> Reply
-    ensures { λ r. ⌜ Fills r (blockingReply (now (table .entry)) allowance (length (now (sets .entry)))) (listPuts (list (blockingTree (nodesOf (now (table .entry))) (satisfied (now (table .entry)))))) (now (sets .entry)) (now (sets .exit)) ⌝ }
+    ensures { λ r. ⌜ Fills r (blockingReply (now (table .entry)) allowance (length (now (sets .entry)))) (minimalBlockingSets (nodesOf (now (table .entry))) (satisfied (now (table .entry)))) (now (sets .entry)) (now (sets .exit)) ⌝ }
 {
     of_listed(lists::blocking_sets(table, allowance, sets))
 }

@@ -27,6 +27,13 @@ use Rattle.answers.specs.Said.{listedSays}
 use Rattle.answers.proofs.Exact.{listed-exact}
 use Rattle.lists.specs.Lists.{Promised, ListsMinimal, ListsBlocking}
 
+-- ---- what a tree lists is every such set
+pub minimal-put : (t : List ℕ) → listPuts (list (minimalTree (nodes t) (satisfied t))) ≡ minimalQuorums (nodes t) (satisfied t)
+minimal-put t = ap listPuts (minimal-listed (nodes t) (satisfied t) (satisfied-monotone t))
+
+pub blocking-put : (t : List ℕ) → listPuts (list (blockingTree (nodes t) (satisfied t))) ≡ minimalBlockingSets (nodes t) (satisfied t)
+blocking-put t = ap listPuts (blocking-listed (nodes t) (satisfied t) (satisfied-monotone t))
+
 -- ---- two results that both fit are equal
 pub exact : (r : Reply) (own before a b : List ℕ) (x y : Listed) → Promised r own before a x → Promised r own before b y → (x ≡ y) × (a ≡ b)
 exact r own before a b x y p q = (listed-exact x y (p .answers ∙ sym (q .answers)), p .lent ∙ sym (q .lent))
@@ -123,23 +130,30 @@ module _ (t : List ℕ) (allowance : ℕ) (before after : List ℕ) where
   abbrev Blockings : Listed → Type 0
   Blockings o = ListsBlocking t allowance before after o
 
+  -- what the walk of the tree puts there is every such set
+  pub minimal-walked : (o : Listed) → Minimals o → Promised (minimalReply t allowance (length before)) (listPuts (list (minimalTree n s))) before after o
+  minimal-walked o p = subst (λ (l : List ℕ). Promised (minimalReply t allowance (length before)) l before after o) (sym (minimal-put t)) p
+
+  pub blocking-walked : (o : Listed) → Blockings o → Promised (blockingReply t allowance (length before)) (listPuts (list (blockingTree n s))) before after o
+  blocking-walked o p = subst (λ (l : List ℕ). Promised (blockingReply t allowance (length before)) l before after o) (sym (blocking-put t)) p
+
   -- On number 0 the front of the list is every minimal quorum, in the listing order.
   pub minimal-all : (count v : ℕ) → Minimals (Sets count v) → All (minimalQuorums n s) (visits (minimalTree n s)) allowance before after count v
   unfolding minimalReply
-  minimal-all = all-listed allowance (minimalQuorums n s) (visits (minimalTree n s)) (check t) before after (list (minimalTree n s)) (minimal-listed n s (satisfied-monotone t))
+  minimal-all count v p = all-listed allowance (minimalQuorums n s) (visits (minimalTree n s)) (check t) before after (list (minimalTree n s)) (minimal-listed n s (satisfied-monotone t)) count v (minimal-walked (Sets count v) p)
 
   pub blocking-all : (count v : ℕ) → Blockings (Sets count v) → All (minimalBlockingSets n s) (visits (blockingTree n s)) allowance before after count v
   unfolding blockingReply
-  blocking-all = all-listed allowance (minimalBlockingSets n s) (visits (blockingTree n s)) (check t) before after (list (blockingTree n s)) (blocking-listed n s (satisfied-monotone t))
+  blocking-all count v p = all-listed allowance (minimalBlockingSets n s) (visits (blockingTree n s)) (check t) before after (list (blockingTree n s)) (blocking-listed n s (satisfied-monotone t)) count v (blocking-walked (Sets count v) p)
 
   -- Number 13 is never given.
   pub minimal-splits : Minimals Unsplit → ⊥
   unfolding minimalReply
-  minimal-splits = never-split allowance (minimalQuorums n s) (visits (minimalTree n s)) (check t) before after (list (minimalTree n s)) (minimal-listed n s (satisfied-monotone t))
+  minimal-splits p = never-split allowance (minimalQuorums n s) (visits (minimalTree n s)) (check t) before after (list (minimalTree n s)) (minimal-listed n s (satisfied-monotone t)) (minimal-walked Unsplit p)
 
   pub blocking-splits : Blockings Unsplit → ⊥
   unfolding blockingReply
-  blocking-splits = never-split allowance (minimalBlockingSets n s) (visits (blockingTree n s)) (check t) before after (list (blockingTree n s)) (blocking-listed n s (satisfied-monotone t))
+  blocking-splits p = never-split allowance (minimalBlockingSets n s) (visits (blockingTree n s)) (check t) before after (list (blockingTree n s)) (blocking-listed n s (satisfied-monotone t)) (blocking-walked Unsplit p)
 
   -- No more visits are reported than 2 ^ (a + 1) - 1 for a nodes.
   few : (v steps : ℕ) → v ≡ steps → suc steps ≤ 2 ^ suc (size n (everyone n)) → suc v ≤ 2 ^ suc n

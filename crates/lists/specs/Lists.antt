@@ -5,9 +5,10 @@ use Prim.Native.Nat.{ℕ}
 use lib.ListN.{length}
 use Rattle.sets.specs.Sets.{nobody, everyone}
 use Rattle.meanings.specs.Table.{nodes, satisfied}
-use Rattle.meanings.specs.Trees.{Tree, list, minimalTree, blockingTree}
+use Rattle.meanings.specs.Quorums.{minimalQuorums, minimalBlockingSets}
+use Rattle.meanings.specs.Trees.{Tree}
 use Rattle.meanings.specs.Replies.{Reply, leaves}
-use Rattle.meanings.specs.Questions.{listPuts, minimalReply, blockingReply}
+use Rattle.meanings.specs.Questions.{minimalReply, blockingReply}
 use Rattle.groups.specs.Groups.{Grouped}
 use Rattle.answers.specs.declared.Listed.{Listed}
 use Rattle.answers.specs.Said.{listedSays}
@@ -19,14 +20,15 @@ pub record Promised (r : Reply) (own before after : List ℕ) (o : Listed) : Typ
   pub answers : listedSays o ≡ r
   pub lent : after ≡ leaves (r .number) own before
 
--- the two operations, for a table, an allowance and a lent list
+-- The two operations, for a table, an allowance and a lent list: what they put there is every minimal quorum, or every minimal blocking
+-- set, in the listing order.
 abbrev pub ListsMinimal : List ℕ → ℕ → List ℕ → List ℕ → Listed → Type 0
 ListsMinimal t allowance before after o =
-    Promised (minimalReply t allowance (length before)) (listPuts (list (minimalTree (nodes t) (satisfied t)))) before after o
+    Promised (minimalReply t allowance (length before)) (minimalQuorums (nodes t) (satisfied t)) before after o
 
 abbrev pub ListsBlocking : List ℕ → ℕ → List ℕ → List ℕ → Listed → Type 0
 ListsBlocking t allowance before after o =
-    Promised (blockingReply t allowance (length before)) (listPuts (list (blockingTree (nodes t) (satisfied t)))) before after o
+    Promised (blockingReply t allowance (length before)) (minimalBlockingSets (nodes t) (satisfied t)) before after o
 
 -- the tree from C empty and R = all
 abbrev pub treeOf : List ℕ → Sought → Tree ℕ

@@ -1,6 +1,12 @@
 -- The tree that is walked is the tree of the blocking sets.
 use Rattle.meanings.specs.Questions.{blockingReply}
 use Rattle.meanings.specs.Trees.{blockingTree}
+use mathlib.Core.Path.{subst}
+use mathlib.Core.List.{List}
+use Prim.Native.Nat.{ℕ}
+use lib.ListN.{length}
+use Rattle.lists.specs.Lists.{Promised}
+use Rattle.lists.proofs.Means.{blocking-put}
 use borrow.Author.Needs.{needs}
 use Rattle.lists.proofs.blocking_sets.Statement.{statement}
 use Rattle.lists.proofs.blocking_sets.Tie as tie
@@ -13,7 +19,13 @@ same-length c = search needs
 
 returns : tie.Need-returns
 unfolding blockingReply blockingTree
-returns c = c .before .before .answer .ensures
+returns c =
+    let A = c .before .before in
+    let s = A .before .before .before .before in
+    subst
+    (λ (l : List ℕ). Promised (blockingReply (s .args .table .now) (s .args .allowance) (length (s .args .sets .now))) l (s .args .sets .now) (A .answer .last .1 .1 .1 .0) (A .answer .result))
+    (blocking-put (s .args .table .now))
+    (A .answer .ensures)
 
 pub blocking-sets-spec : {M : Type 1} → statement M
 blocking-sets-spec = tie.close (tie.spec answer-requires same-length returns)

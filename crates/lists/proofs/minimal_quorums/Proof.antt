@@ -1,6 +1,12 @@
 -- The tree that is walked is the tree of the minimal quorums.
 use Rattle.meanings.specs.Questions.{minimalReply}
 use Rattle.meanings.specs.Trees.{minimalTree}
+use mathlib.Core.Path.{subst}
+use mathlib.Core.List.{List}
+use Prim.Native.Nat.{ℕ}
+use lib.ListN.{length}
+use Rattle.lists.specs.Lists.{Promised}
+use Rattle.lists.proofs.Means.{minimal-put}
 use borrow.Author.Needs.{needs}
 use Rattle.lists.proofs.minimal_quorums.Statement.{statement}
 use Rattle.lists.proofs.minimal_quorums.Tie as tie
@@ -13,7 +19,13 @@ same-length c = search needs
 
 returns : tie.Need-returns
 unfolding minimalReply minimalTree
-returns c = c .before .before .answer .ensures
+returns c =
+    let A = c .before .before in
+    let s = A .before .before .before .before in
+    subst
+    (λ (l : List ℕ). Promised (minimalReply (s .args .table .now) (s .args .allowance) (length (s .args .sets .now))) l (s .args .sets .now) (A .answer .last .1 .1 .1 .0) (A .answer .result))
+    (minimal-put (s .args .table .now))
+    (A .answer .ensures)
 
 pub minimal-quorums-spec : {M : Type 1} → statement M
 minimal-quorums-spec = tie.close (tie.spec answer-requires same-length returns)
