@@ -51,21 +51,19 @@ fn answer(table: &[u64], sought: Sought, allowance: u64, lent: &mut [u64]) -> Li
     ensures { λ o. ⌜ Promised (onCheck (check (now (table .entry))) (listSays allowance (length (now (lent .entry))) (list (treeOf (now (table .entry)) sought)))) (listPuts (list (treeOf (now (table .entry)) sought))) (now (lent .entry)) (now (lent .exit)) o ⌝ }
 {
     let checked = faults::check_table(table);
-    match checked {
-        Checked::Bad(fault) => Listed::Bad(fault),
-        Checked::Sound { nodes, records: _ } => {
-            let mut plan = [0u64; 128];
-            let groups = groups::group(table, &mut plan);
-            let all = sets::all(nodes);
-            let s = Search {
-                sought,
-                groups,
-                all,
-                allowance,
-            };
-            fill(table, &plan, s, lent)
-        }
-    }
+    let Checked::Sound { nodes, records: _ } = checked else {
+        return Listed::Bad(quorums::fault_of(checked));
+    };
+    let mut plan = [0u64; 128];
+    let groups = groups::group(table, &mut plan);
+    let all = sets::all(nodes);
+    let s = Search {
+        sought,
+        groups,
+        all,
+        allowance,
+    };
+    fill(table, &plan, s, lent)
 }
 
 // The minimal quorums of a table, in the listing order, at the front of the lent list.

@@ -22,26 +22,30 @@ check-table-requires c κs = search needs
 enum-known-checked : tie.Need-enum-known-checked
 enum-known-checked c = search needs
 
-enum-known-checked-2 : tie.Need-enum-known-checked-2
-enum-known-checked-2 c = search needs
+enum-told : tie.Need-enum-told
+enum-told c = search needs
+
+fault-of-requires : tie.Need-fault-of-requires
+fault-of-requires c κs = search needs
 
 slice-aggregate-group : tie.Need-slice-aggregate-group
 slice-aggregate-group c = search needs
 
 -- what the check has found
-passed : (c : tie.After-checked2) →
-    let t = c .before .before .before .before .before .args .table .now in
-    (check t ≡ sound) × (c .checked2 .given .0 .0 ≡ nodes t) × (c .checked2 .given .0 .1 .0 ≡ records t)
+passed : (c : tie.After-known-told) →
+    let t = c .before .before .before .before .before .before .args .table .now in
+    (check t ≡ sound) × (c .before .checked .given .0 .0 ≡ nodes t) × (c .before .checked .given .0 .1 .0 ≡ records t)
 passed c =
-    let k = c .before .before in
-    sound-known (k .before .before .before .args .table .now) (k .check-table .result) (k .check-table .ensures) (c .checked2 .given .0 .0) (c .checked2 .given .0 .1 .0) (c .checked2 .given .1)
+    let k = c .before .before .before in
+    let g = c .before .checked .given in
+    sound-known (k .before .before .before .args .table .now) (k .check-table .result) (k .check-table .ensures) (g .0 .0) (g .0 .1 .0) (g .1)
 
 group-requires : tie.Need-group-requires
-group-requires c κs = (passed (c .before .before) .0, omega arith)
+group-requires c κs = (passed (c .before) .0, omega arith)
 
 all-requires : tie.Need-all-requires
 all-requires c κs =
-    let p = passed (c .before .before .before .before) in
+    let p = passed (c .before .before .before) in
     let m = sound-table (c .before .before .before .before .before .before .before .before .before .args .table .now) (p .0) .nodes-le in
     let e = p .1 in
     omega arith
@@ -51,17 +55,16 @@ slice-aggregate-fill c = search needs
 
 fill-requires : tie.Need-fill-requires
 fill-requires c κs =
-    let p = passed (c .before .before .before .before .before .before .before) in
+    let p = passed (c .before .before .before .before .before .before) in
     record { grouped = c .before .before .before .before .group .ensures .0; whole = c .before .before .all .ensures ∙ ap (λ (n : ℕ). everyone n) (p .1) }
 
 returns : tie.Need-returns
 returns c =
-    let g = c .before in
-    let k = g .before .before in
+    let k = c .before .before .before in
     let s = k .before .before .before in
     let r = listSays (s .args .allowance) (length (s .args .lent .now)) (list (treeOf (s .args .table .now) (s .args .sought))) in
-    faulty (g .checked .given .0 .0) (check (s .args .table .now)) r (listPuts (list (treeOf (s .args .table .now) (s .args .sought)))) (s .args .lent .now)
-    (fault-known (s .args .table .now) (k .check-table .result) (k .check-table .ensures) (g .checked .given .0 .0) (g .checked .given .1) r)
+    faulty (c .fault-of .result) (check (s .args .table .now)) r (listPuts (list (treeOf (s .args .table .now) (s .args .sought)))) (s .args .lent .now)
+    (fault-known (s .args .table .now) (k .check-table .result) (k .check-table .ensures) (c .fault-of .result) (c .fault-of .ensures) r)
 
 same-length : tie.Need-same-length
 same-length c = search needs
@@ -70,7 +73,7 @@ returns-2 : tie.Need-returns-2
 returns-2 c =
     let f = c .before .before in
     let s = c .before .before .before .before .before .before .before .before .before .before .before .before .before .before .before in
-    let p = passed (f .before .before .before .before .before .before .before .before) in
+    let p = passed (f .before .before .before .before .before .before .before) in
     let t = s .args .table .now in
     let before = s .args .lent .now in
     subst (λ (x : Check). Promised (onCheck x (listSays (s .args .allowance) (length before) (list (treeOf t (s .args .sought))))) (listPuts (list (treeOf t (s .args .sought)))) before (f .fill .last .1 .1 .1 .0) (f .fill .result))
@@ -82,12 +85,13 @@ answer-spec =
     (tie.spec
     check-table-requires
     enum-known-checked
-    enum-known-checked-2
+    enum-told
+    fault-of-requires
+    returns
     slice-aggregate-group
     group-requires
     all-requires
     slice-aggregate-fill
     fill-requires
-    returns
     same-length
     returns-2)
