@@ -1,9 +1,12 @@
 -- The steps of satisfaction, as the code takes them: the members that are in u, and the run of inner sets after the record.
 use mathlib.Core.Path.{_≡_, refl, sym, ap, _∙_}
+use mathlib.Core.Bool.{true, false}
 use mathlib.Core.List.{List}
 use Prim.Native.Nat.{ℕ, zero, suc, _+_, _-_, _<_, _≤_}
 use native.Mathlib.Nat.{lt-irrefl}
 use native.Mathlib.Numerals.{sub-one}
+use native.Mathlib.Omega.{arith}
+use borrow.Author.Tests.{le-leb, lt-leb}
 use lib.Dec.{leb}
 use Rattle.sets.specs.Sets.{size, _∩_}
 use Rattle.meanings.specs.Table.{records, members, threshold, level, satisfies}
@@ -23,3 +26,12 @@ judged-more (suc left) t u r e l h =
     ap (λ (k : ℕ). leb (threshold t r) (size 64 (members t r ∩ u) + k))
     (inner-from t r (λ j l'. sound-table t e .at j l' .in-step) (λ j. satisfies left t u j) l
     ∙ ap (λ (m : ℕ). innerFrom (λ j. satisfies m t u j) t (level t r) (r + 1)) (sym (sub-one (suc left))))
+
+-- members that are enough are enough with any inner sets
+pub judged-early : (left : ℕ) (t : List ℕ) (u r : ℕ) → check t ≡ sound → r < records t → threshold t r ≤ size 64 (members t r ∩ u) → satisfies left t u r ≡ true
+judged-early zero t u r e l h = judged-last t u r ∙ le-leb (threshold t r) (size 64 (members t r ∩ u)) h
+judged-early (suc left) t u r e l h = judged-more (suc left) t u r e l (omega arith) ∙ le-leb (threshold t r) _ (omega arith)
+
+-- and too few of them are too few at the last level
+pub judged-short : (t : List ℕ) (u r : ℕ) → size 64 (members t r ∩ u) < threshold t r → satisfies 0 t u r ≡ false
+judged-short t u r h = judged-last t u r ∙ lt-leb (threshold t r) (size 64 (members t r ∩ u)) h

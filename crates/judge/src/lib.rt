@@ -38,13 +38,18 @@ fn inner_met(t: &[u64], u: u64, from: usize, above: u64, left: usize) -> u64
     have
 }
 
-// Whether u satisfies record r, with `left` levels below it.
+// Whether u satisfies record r, with `left` levels below it. Where its members are enough the inner sets are not looked at.
 pub fn satisfies(t: &[u64], u: u64, r: usize, left: usize) -> bool
     requires { ⌜ (check (now t) ≡ sound) × (r < records (now t)) ⌝ }
     ensures { λ o. ⌜ o ≡ satisfiesAt left (now (t .entry)) u r ⌝ }
 {
-    if left == 0 {
-        return tables::threshold(t, r) <= met(t, u, r);
+    let need = tables::threshold(t, r);
+    let have = met(t, u, r);
+    if need <= have {
+        return true;
     }
-    tables::threshold(t, r) <= met(t, u, r) + inner_met(t, u, r + 1, tables::level(t, r), left - 1)
+    if left == 0 {
+        return false;
+    }
+    need <= have + inner_met(t, u, r + 1, tables::level(t, r), left - 1)
 }

@@ -10,7 +10,7 @@ use Rattle.sets.specs.Sets.{size, _∩_}
 use Rattle.meanings.specs.Table.{records, level, threshold, members, satisfies as satisfiesAt}
 use Rattle.tables.proofs.Runs.{innerFrom, from-end, from-stop, from-hit, from-miss, from-deeper}
 use Rattle.tables.proofs.Sound.{record-in, sound-table}
-use Rattle.judge.proofs.Laws.{judged-last, judged-more}
+use Rattle.judge.proofs.Laws.{judged-early, judged-short, judged-more}
 use Prim.Native.Nat.{ℕ, _<_, _≤_, _+_, _-_, _*_, _/_}
 use borrow.Fn.Kinds.{In}
 use borrow.Fn.PlainCycle.{Measures, is, falls, and}
@@ -207,7 +207,6 @@ inner-met-returns-2 t c =
     let v = L .loop .inv in
     (omega arith, omega arith)
 
--- src/lib.rt:47:16
 satisfies-threshold-requires : (t : ℕ) → satisfies-lts.Need-threshold-requires (
   threshold-reads.Asked,
   threshold-reads.Learnt,
@@ -219,10 +218,9 @@ satisfies-threshold-requires : (t : ℕ) → satisfies-lts.Need-threshold-requir
   inner-met.Post,
 ) (satisfies-at t) satisfies.Post
 satisfies-threshold-requires t c κs =
-    let s = c .before .before in
+    let s = c .before in
     record-in (s .args .t .now) (s .args .r) (s .pre .1 .1)
 
--- src/lib.rt:47:43
 satisfies-met-requires : (t : ℕ) → satisfies-lts.Need-met-requires (
   threshold-reads.Asked,
   threshold-reads.Learnt,
@@ -234,10 +232,10 @@ satisfies-met-requires : (t : ℕ) → satisfies-lts.Need-met-requires (
   inner-met.Post,
 ) (satisfies-at t) satisfies.Post
 satisfies-met-requires t c κs =
-    let s = c .before .before .before in
+    let s = c .before .before in
     s .pre .1
 
--- src/lib.rt:47:9
+-- the members are enough
 satisfies-returns : (t : ℕ) → satisfies-lts.Need-returns (
   threshold-reads.Asked,
   threshold-reads.Learnt,
@@ -251,11 +249,13 @@ satisfies-returns : (t : ℕ) → satisfies-lts.Need-returns (
 satisfies-returns t c =
     let s = c .before .before .before .before in
     let T = s .args .t .now in
-    ap₂ leb (c .before .threshold .ensures .0) (c .met .ensures .0)
-    ∙ sym (ap (λ (n : ℕ). satisfiesAt n T (s .args .u) (s .args .r)) (c .before .before .if1 .taken) ∙ judged-last T (s .args .u) (s .args .r))
+    let e = c .before .before .threshold .ensures .0 in
+    let m = c .before .met .ensures .0 in
+    let h = c .if1 .taken in
+    sym (judged-early (s .args .left) T (s .args .u) (s .args .r) (s .pre .1 .0) (s .pre .1 .1) (omega arith))
 
--- src/lib.rt:49:5
-satisfies-threshold-requires-2 : (t : ℕ) → satisfies-lts.Need-threshold-requires-2 (
+-- they are not, and there is no level below
+satisfies-returns-2 : (t : ℕ) → satisfies-lts.Need-returns-2 (
   threshold-reads.Asked,
   threshold-reads.Learnt,
   met-reads.Asked,
@@ -265,26 +265,14 @@ satisfies-threshold-requires-2 : (t : ℕ) → satisfies-lts.Need-threshold-requ
   inner-met-below t,
   inner-met.Post,
 ) (satisfies-at t) satisfies.Post
-satisfies-threshold-requires-2 t c κs =
-    let s = c .before .before in
-    record-in (s .args .t .now) (s .args .r) (s .pre .1 .1)
+satisfies-returns-2 t c =
+    let s = c .before .before .before .before .before in
+    let T = s .args .t .now in
+    let e = c .before .before .before .threshold .ensures .0 in
+    let m = c .before .before .met .ensures .0 in
+    let h = c .before .if1 .left in
+    sym (ap (λ (n : ℕ). satisfiesAt n T (s .args .u) (s .args .r)) (c .if2 .taken) ∙ judged-short T (s .args .u) (s .args .r) (omega arith))
 
--- src/lib.rt:50:12
-satisfies-met-requires-2 : (t : ℕ) → satisfies-lts.Need-met-requires-2 (
-  threshold-reads.Asked,
-  threshold-reads.Learnt,
-  met-reads.Asked,
-  met-reads.Learnt,
-  level-reads.Asked,
-  level-reads.Learnt,
-  inner-met-below t,
-  inner-met.Post,
-) (satisfies-at t) satisfies.Post
-satisfies-met-requires-2 t c κs =
-    let s = c .before .before .before in
-    s .pre .1
-
--- src/lib.rt:50:43
 satisfies-add-inner-met : (t : ℕ) → satisfies-lts.Need-add-inner-met (
   threshold-reads.Asked,
   threshold-reads.Learnt,
@@ -296,12 +284,11 @@ satisfies-add-inner-met : (t : ℕ) → satisfies-lts.Need-add-inner-met (
   inner-met.Post,
 ) (satisfies-at t) satisfies.Post
 satisfies-add-inner-met t c =
-    let s = c .before .before .before .before in
+    let s = c .before .before .before .before .before in
     let l = s .pre .1 .1 in
     let w = sound-table (s .args .t .now) (s .pre .1 .0) .records-le in
     omega arith
 
--- src/lib.rt:50:50
 satisfies-level-requires : (t : ℕ) → satisfies-lts.Need-level-requires (
   threshold-reads.Asked,
   threshold-reads.Learnt,
@@ -313,10 +300,9 @@ satisfies-level-requires : (t : ℕ) → satisfies-lts.Need-level-requires (
   inner-met.Post,
 ) (satisfies-at t) satisfies.Post
 satisfies-level-requires t c κs =
-    let s = c .before .before .before .before in
+    let s = c .before .before .before .before .before in
     record-in (s .args .t .now) (s .args .r) (s .pre .1 .1)
 
--- src/lib.rt:50:71
 satisfies-sub-inner-met : (t : ℕ) → satisfies-lts.Need-sub-inner-met (
   threshold-reads.Asked,
   threshold-reads.Learnt,
@@ -329,7 +315,6 @@ satisfies-sub-inner-met : (t : ℕ) → satisfies-lts.Need-sub-inner-met (
 ) (satisfies-at t) satisfies.Post
 satisfies-sub-inner-met t c = omega arith
 
--- src/lib.rt:50:27
 satisfies-inner-met-requires : (t : ℕ) → satisfies-lts.Need-inner-met-requires (
   threshold-reads.Asked,
   threshold-reads.Learnt,
@@ -341,11 +326,10 @@ satisfies-inner-met-requires : (t : ℕ) → satisfies-lts.Need-inner-met-requir
   inner-met.Post,
 ) (satisfies-at t) satisfies.Post
 satisfies-inner-met-requires t c κs =
-    let s = c .before .before .before .before .before in
+    let s = c .before .before .before .before .before .before in
     let l = s .pre .1 .1 in
     (omega arith, (s .pre .1 .0, omega arith, c .level .ensures .1))
 
--- src/lib.rt:50:12
 satisfies-add-result : (t : ℕ) → satisfies-lts.Need-add-result (
   threshold-reads.Asked,
   threshold-reads.Learnt,
@@ -357,14 +341,13 @@ satisfies-add-result : (t : ℕ) → satisfies-lts.Need-add-result (
   inner-met.Post,
 ) (satisfies-at t) satisfies.Post
 satisfies-add-result t c =
-    let s = c .before .before .before .before .before .before in
-    let m = c .before .before .met2 .ensures .1 in
+    let s = c .before .before .before .before .before .before .before in
+    let m = c .before .before .before .before .met .ensures .1 in
     let i = c .inner-met .ensures .1 in
     let w = sound-table (s .args .t .now) (s .pre .1 .0) .records-le in
     omega arith
 
--- src/lib.rt:42:1
-satisfies-returns-2 : (t : ℕ) → satisfies-lts.Need-returns-2 (
+satisfies-returns-3 : (t : ℕ) → satisfies-lts.Need-returns-3 (
   threshold-reads.Asked,
   threshold-reads.Learnt,
   met-reads.Asked,
@@ -374,14 +357,14 @@ satisfies-returns-2 : (t : ℕ) → satisfies-lts.Need-returns-2 (
   inner-met-below t,
   inner-met.Post,
 ) (satisfies-at t) satisfies.Post
-satisfies-returns-2 t c =
-    let s = c .before .before .before .before .before .before in
+satisfies-returns-3 t c =
+    let s = c .before .before .before .before .before .before .before in
     let T = s .args .t .now in
     let k = c .before .level .ensures .0 in
-    ap₂ leb (c .before .before .before .threshold2 .ensures .0)
-    (ap₂ _+_ (c .before .before .met2 .ensures .0)
+    ap₂ leb (c .before .before .before .before .before .threshold .ensures .0)
+    (ap₂ _+_ (c .before .before .before .before .met .ensures .0)
     (c .inner-met .ensures .0 ∙ ap (λ (x : ℕ). innerFrom (λ j. satisfiesAt (s .args .left - 1) T (s .args .u) j) T x (s .args .r + 1)) k))
-    ∙ sym (judged-more (s .args .left) T (s .args .u) (s .args .r) (s .pre .1 .0) (s .pre .1 .1) (omega (arith, c .before .before .before .before .if1 .left)))
+    ∙ sym (judged-more (s .args .left) T (s .args .u) (s .args .r) (s .pre .1 .0) (s .pre .1 .1) (omega (arith, c .before .before .if2 .left)))
 
 pub +inner-met+satisfies-spec : {M : Type 1} → statement M
 +inner-met+satisfies-spec = close μ-inner-met μ-satisfies (λ t. inner-met-lts.spec (
@@ -419,11 +402,10 @@ pub +inner-met+satisfies-spec : {M : Type 1} → statement M
     (satisfies-threshold-requires t)
     (satisfies-met-requires t)
     (satisfies-returns t)
-    (satisfies-threshold-requires-2 t)
-    (satisfies-met-requires-2 t)
+    (satisfies-returns-2 t)
     (satisfies-add-inner-met t)
     (satisfies-level-requires t)
     (satisfies-sub-inner-met t)
     (satisfies-inner-met-requires t)
     (satisfies-add-result t)
-    (satisfies-returns-2 t)
+    (satisfies-returns-3 t)
