@@ -29,17 +29,8 @@ array-share-prefix-table c =
 slice-aggregate-words : tie.Need-slice-aggregate-words
 slice-aggregate-words c = sym (length-take-le _ _ (array-share-prefix-table (c .before)))
 
-show-nodes-requires : tie.Need-show-nodes-requires
-show-nodes-requires c κs = search needs
-
-show-verdict-requires : tie.Need-show-verdict-requires
-show-verdict-requires c κs = search needs
-
-show-minimal-requires : tie.Need-show-minimal-requires
-show-minimal-requires c κs = search needs
-
-show-blocking-requires : tie.Need-show-blocking-requires
-show-blocking-requires c κs = search needs
+show-table-requires : tie.Need-show-table-requires
+show-table-requires c κs = search needs
 
 returns-2 : tie.Need-returns-2
 returns-2 c = search needs
@@ -54,8 +45,5 @@ main-spec =
     returns
     array-share-prefix-table
     slice-aggregate-words
-    show-nodes-requires
-    show-verdict-requires
-    show-minimal-requires
-    show-blocking-requires
+    show-table-requires
     returns-2)

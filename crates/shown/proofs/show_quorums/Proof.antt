@@ -1,8 +1,8 @@
 -- The place stays within the sets to show, and each turn leaves one less.
 use borrow.Author.Needs.{needs}
 use Prim.Native.Nat.{_-_, _≤_}
-use Rattle.breezedrum.proofs.show_blocks.Statement.{statement}
-use Rattle.breezedrum.proofs.show_blocks.Tie as tie
+use Rattle.shown.proofs.show_quorums.Statement.{statement}
+use Rattle.shown.proofs.show_quorums.Tie as tie
 
 abbrev Inv-loop : tie.InvT-loop
 Inv-loop sets count i₀ i = (i ≤ count) × (count ≤ 1024)
@@ -13,14 +13,14 @@ abbrev μ-loop : tie.MeasureT-loop
 loop-holds : tie.Need-loop-holds Inv-loop μ-loop
 loop-holds c = search needs
 
-mul-put-blocks : tie.Need-mul-put-blocks Inv-loop μ-loop
-mul-put-blocks c = search needs
+mul-put-quorum : tie.Need-mul-put-quorum Inv-loop μ-loop
+mul-put-quorum c = search needs
 
-element-copy-out-put-blocks : tie.Need-element-copy-out-put-blocks Inv-loop μ-loop
-element-copy-out-put-blocks c = search needs
+element-copy-out-put-quorum : tie.Need-element-copy-out-put-quorum Inv-loop μ-loop
+element-copy-out-put-quorum c = search needs
 
-put-blocks-requires : tie.Need-put-blocks-requires Inv-loop μ-loop
-put-blocks-requires c κs = search needs
+put-quorum-requires : tie.Need-put-quorum-requires Inv-loop μ-loop
+put-quorum-requires c κs = search needs
 
 show-requires : tie.Need-show-requires Inv-loop μ-loop
 show-requires c κs = search needs
@@ -37,16 +37,16 @@ loop-again c = search needs
 returns : tie.Need-returns Inv-loop μ-loop
 returns c = search needs
 
-pub show-blocks-spec : {M : Type 1} → statement M
-show-blocks-spec =
+pub show-quorums-spec : {M : Type 1} → statement M
+show-quorums-spec =
     tie.close
     (tie.spec
     Inv-loop
     μ-loop
     loop-holds
-    mul-put-blocks
-    element-copy-out-put-blocks
-    put-blocks-requires
+    mul-put-quorum
+    element-copy-out-put-quorum
+    put-quorum-requires
     show-requires
     add-i
     loop-less

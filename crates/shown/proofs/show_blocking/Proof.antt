@@ -2,8 +2,8 @@
 use borrow.Author.Needs.{needs}
 use native.Mathlib.Omega.{arith}
 use Rattle.report.proofs.Counted.{blocking-within}
-use Rattle.breezedrum.proofs.show_blocking.Statement.{statement}
-use Rattle.breezedrum.proofs.show_blocking.Tie as tie
+use Rattle.shown.proofs.show_blocking.Statement.{statement}
+use Rattle.shown.proofs.show_blocking.Tie as tie
 
 slice-aggregate-blocking-sets : tie.Need-slice-aggregate-blocking-sets
 slice-aggregate-blocking-sets c = search needs
@@ -17,8 +17,8 @@ put-blocking-requires c κs = search needs
 show-requires : tie.Need-show-requires
 show-requires c κs = search needs
 
-enum-known-listed : tie.Need-enum-known-listed
-enum-known-listed c = search needs
+enum-known-found : tie.Need-enum-known-found
+enum-known-found c = search needs
 
 returns : tie.Need-returns
 returns c = search needs
@@ -27,7 +27,7 @@ show-blocks-requires : tie.Need-show-blocks-requires
 show-blocks-requires c κs =
     let l = c .before .before in
     let m = l .before .before .before .before .before .before .before in
-    let h = blocking-within _ _ _ _ (m .blocking-sets .ensures .answers) _ _ (l .listed .given .1) in
+    let h = blocking-within _ _ _ _ (m .blocking-sets .ensures .answers) _ _ (l .found .given .1) in
     omega (arith, h)
 
 returns-2 : tie.Need-returns-2
@@ -41,7 +41,7 @@ show-blocking-spec =
     blocking-sets-requires
     put-blocking-requires
     show-requires
-    enum-known-listed
+    enum-known-found
     returns
     show-blocks-requires
     returns-2)

@@ -2,8 +2,8 @@
 use borrow.Author.Needs.{needs}
 use native.Mathlib.Omega.{arith}
 use Rattle.report.proofs.Counted.{minimal-within}
-use Rattle.breezedrum.proofs.show_minimal.Statement.{statement}
-use Rattle.breezedrum.proofs.show_minimal.Tie as tie
+use Rattle.shown.proofs.show_minimal.Statement.{statement}
+use Rattle.shown.proofs.show_minimal.Tie as tie
 
 slice-aggregate-minimal-quorums : tie.Need-slice-aggregate-minimal-quorums
 slice-aggregate-minimal-quorums c = search needs

@@ -3,8 +3,8 @@ use borrow.Author.Needs.{needs}
 use mathlib.Core.Path.{sym}
 use denote.Ref.{now}
 use lib.Seq.{length-take-le}
-use Rattle.breezedrum.proofs.write_first.Statement.{statement}
-use Rattle.breezedrum.proofs.write_first.Tie as tie
+use Rattle.shown.proofs.write_first.Statement.{statement}
+use Rattle.shown.proofs.write_first.Tie as tie
 
 slice-aggregate-write-all : tie.Need-slice-aggregate-write-all
 slice-aggregate-write-all c =

@@ -1,0 +1,70 @@
+// The reports on stored sheets, one after the other: each sheet stands behind its length, two bytes with the lower first.
+use answers::Read;
+use libc::STDIN_FILENO;
+use std::num::wrapping_add_usize;
+
+// A byte as a number.
+fn wide(x: u8) -> usize {
+    x as usize
+}
+
+// The number of the first two bytes.
+fn two(s: &[u8]) -> usize {
+    if s.len() < 2 {
+        return 0;
+    }
+    wide(s[0]) | wide(s[1]) << 8
+}
+
+// The report on one sheet.
+fn report_on(sheet: &[u8]) {
+    let mut table = [0u64; 512];
+    let read = sheets::read_sheet(sheet, &mut table);
+    let Read::Words { count } = read else {
+        shown::show_refused(read);
+        return;
+    };
+    let k = count as usize;
+    let words = &table[..k];
+    shown::show_table(words);
+}
+
+// The sheet at the start of the bytes: how many it takes with its length, or all where there is none.
+fn sheet_at(s: &[u8]) -> usize {
+    let all = s.len();
+    if all < 2 {
+        return all;
+    }
+    let length = two(s);
+    if length > all - 2 {
+        return all;
+    }
+    let end = 2 + length;
+    report_on(&s[2..end]);
+    end
+}
+
+// The sheet at a place, and the place after it.
+fn step(s: &[u8], at: usize) -> usize {
+    if at < s.len() {
+        wrapping_add_usize(at, sheet_at(&s[at..]))
+    } else {
+        at
+    }
+}
+
+// All sheets, up to 256.
+fn all_sheets(s: &[u8]) {
+    let mut at = 0;
+    let mut left: u64 = 256;
+    while left > 0 {
+        at = step(s, at);
+        left -= 1;
+    }
+}
+
+fn main() {
+    let mut buf = io::large_buffer();
+    let n = io::read_full(STDIN_FILENO, &mut buf);
+    all_sheets(&buf[..n]);
+}
