@@ -1,5 +1,4 @@
 // The reports on stored sheets, one after the other: each sheet stands behind its length, two bytes with the lower first.
-use answers::Read;
 use libc::STDIN_FILENO;
 use std::num::wrapping_add_usize;
 
@@ -16,20 +15,7 @@ fn two(s: &[u8]) -> usize {
     wide(s[0]) | wide(s[1]) << 8
 }
 
-// The report on one sheet.
-fn report_on(sheet: &[u8]) {
-    let mut table = [0u64; 512];
-    let read = sheets::read_sheet(sheet, &mut table);
-    let Read::Words { count } = read else {
-        shown::show_refused(read);
-        return;
-    };
-    let k = count as usize;
-    let words = &table[..k];
-    shown::show_table(words);
-}
-
-// The sheet at the start of the bytes: how many it takes with its length, or all where there is none.
+// The report on the sheet at the start of the bytes: how many it takes with its length, or all where there is none.
 fn sheet_at(s: &[u8]) -> usize {
     let all = s.len();
     if all < 2 {
@@ -40,7 +26,7 @@ fn sheet_at(s: &[u8]) -> usize {
         return all;
     }
     let end = 2 + length;
-    report_on(&s[2..end]);
+    shown::show_report(&s[2..end]);
     end
 }
 

@@ -9,8 +9,8 @@ use Rattle.decimal.specs.Decimal.{numeral}
 use Rattle.members.specs.Members.{memberText}
 use Rattle.meanings.specs.Replies.{Reply, value, Place, Nodes, Records, Answer, First, Second, Count, Visits}
 use Rattle.meanings.specs.Table.{nodes, satisfied}
-use Rattle.meanings.specs.Trees.{list, minimalTree, blockingTree}
-use Rattle.meanings.specs.Questions.{checkReply, verdictReply, minimalReply, blockingReply, listPuts}
+use Rattle.meanings.specs.Quorums.{minimalQuorums, minimalBlockingSets}
+use Rattle.meanings.specs.Questions.{checkReply, verdictReply, minimalReply, blockingReply}
 use Rattle.sheets.specs.Sheets.{readReply, readPuts}
 use Rattle.report.specs.Words as word
 
@@ -73,13 +73,16 @@ room = 1024
 abbrev pub mostWords : ℕ
 mostWords = 512
 
+-- the minimal quorums and the minimal blocking sets of a table
+unfoldable pub minimalPart : (table : List ℕ) → List ℕ
+minimalPart t = listPart word.minimal word.q (minimalReply t allowance room) (minimalQuorums (nodes t) (satisfied t))
+
+unfoldable pub blockingPart : (table : List ℕ) → List ℕ
+blockingPart t = listPart word.blocking word.b (blockingReply t allowance room) (minimalBlockingSets (nodes t) (satisfied t))
+
 -- the report on a table
 unfoldable pub reportOn : (table : List ℕ) → List ℕ
-reportOn t =
-    nodesLine (checkReply t)
-    ++ (verdictLine (verdictReply t nobody allowance)
-    ++ (listPart word.minimal word.q (minimalReply t allowance room) (listPuts (list (minimalTree (nodes t) (satisfied t))))
-    ++ listPart word.blocking word.b (blockingReply t allowance room) (listPuts (list (blockingTree (nodes t) (satisfied t))))))
+reportOn t = nodesLine (checkReply t) ++ (verdictLine (verdictReply t nobody allowance) ++ (minimalPart t ++ blockingPart t))
 
 -- The report on a sheet: one line for a bad one, otherwise that on the table it reads to.
 unfoldable pub reportOf : (sheet : List ℕ) → List ℕ

@@ -10,7 +10,7 @@ ghost use Rattle.members.specs.Members.{memberText};
 ghost use Rattle.answers.specs.Said.{faultSays, readSays, checkedSays, verdictSays, listedSays};
 ghost use Rattle.lines.specs.Lines.{lastText};
 ghost use Rattle.meanings.specs.Replies.{value, Place};
-ghost use Rattle.report.specs.Words.{refused, nodes as nodesWord, sets, verdict, minimal, blocking, q, b};
+ghost use Rattle.report.specs.Words.{refused, nodes as nodesWord, sets, verdict, minimal, blocking};
 ghost use Rattle.report.specs.Fields.{tabbed, ended, numbered, Line};
 ghost use Rattle.report.specs.Report.{row, refusedLine, nodesLine, verdictLine, listLine, setLine};
 use answers::Checked;
@@ -113,15 +113,6 @@ fn list_line(out: &mut [u8], name: &[u8], number: u64, count: u64, visits: u64) 
     b + put_end(&mut out[b..], visits)
 }
 
-// The line of one set of a list.
-fn set_line(out: &mut [u8], letter: &[u8], set: u64) -> usize
-    requires { ⌜ (512 ≤ length (now out)) × (length (now letter) ≤ 1) ⌝ }
-    ensures { λ r. ⌜ Line (row (now (letter .entry) ∷ memberText set ∷ [])) (now (out .entry)) (now (out .exit)) r ⌝ }
-{
-    let a = put_word(out, letter);
-    a + lines::put_last(&mut out[a..], set)
-}
-
 // The number of a fault, 1 to 7.
 fn fault_number(f: Fault) -> u64
     ensures { λ r. ⌜ r ≡ faultSays f .number ⌝ }
@@ -220,16 +211,11 @@ pub fn put_blocking(out: &mut [u8; 512], l: Listed) -> usize
     put_listed(out, b"blocking", l)
 }
 
-// One minimal quorum.
-pub fn put_quorum(out: &mut [u8; 512], set: u64) -> usize
-    ensures { λ k. ⌜ Line (setLine q set) (now (out .entry)) (now (out .exit)) k ⌝ }
+// One set of a list, behind the letter of its list.
+pub fn put_one(out: &mut [u8], letter: &[u8], set: u64) -> usize
+    requires { ⌜ (512 ≤ length (now out)) × (length (now letter) ≤ 1) ⌝ }
+    ensures { λ k. ⌜ Line (setLine (now (letter .entry)) set) (now (out .entry)) (now (out .exit)) k ⌝ }
 {
-    set_line(out, b"q", set)
-}
-
-// One minimal blocking set.
-pub fn put_blocks(out: &mut [u8; 512], set: u64) -> usize
-    ensures { λ k. ⌜ Line (setLine b set) (now (out .entry)) (now (out .exit)) k ⌝ }
-{
-    set_line(out, b"b", set)
+    let a = put_word(out, letter);
+    a + lines::put_last(&mut out[a..], set)
 }

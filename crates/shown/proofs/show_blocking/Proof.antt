@@ -1,7 +1,14 @@
--- No more sets are counted than the list has room for.
+-- The line of the minimal blocking sets, and where they are answered, which is no more than the list has room for, a line for each.
 use borrow.Author.Needs.{needs}
 use native.Mathlib.Omega.{arith}
-use Rattle.report.proofs.Counted.{blocking-within}
+use Prim.Native.Nat.{_+_, _*_, _≤_}
+use mathlib.Core.Path.{refl, subst}
+use Rattle.walks.proofs.Laws.{refused}
+use Rattle.lists.specs.Lists.{ListsBlocking}
+use Rattle.lists.proofs.Means.{blocking-all}
+use Rattle.report.specs.Words as word
+use Rattle.report.specs.Report.{allowance}
+use Rattle.shown.proofs.Parts.{blocking-shown, alone, followed}
 use Rattle.shown.proofs.show_blocking.Statement.{statement}
 use Rattle.shown.proofs.show_blocking.Tie as tie
 
@@ -21,17 +28,51 @@ enum-known-found : tie.Need-enum-known-found
 enum-known-found c = search needs
 
 returns : tie.Need-returns
-returns c = search needs
+returns c =
+    let p = c .before .before .before in
+    let q = p .before .before .before .blocking-sets in
+    let k = p .put-blocking .ensures in
+    record {
+      counted = alone word.blocking word.b (q .last .1 .1 .0) _ (q .result) (blocking-shown _ _ _ _ refl (q .ensures)) _ (k .written .count) (refused (q .result) (c .match .keys2));
+      within = omega (arith, k .within);
+    }
 
-show-blocks-requires : tie.Need-show-blocks-requires
-show-blocks-requires c κs =
-    let l = c .before .before in
-    let m = l .before .before .before .before .before .before .before in
-    let h = blocking-within _ _ _ _ (m .blocking-sets .ensures .answers) _ _ (l .found .given .1) in
-    omega (arith, h)
+slice-aggregate-show-sets : tie.Need-slice-aggregate-show-sets
+slice-aggregate-show-sets c = search needs
+
+slice-aggregate-show-sets-2 : tie.Need-slice-aggregate-show-sets-2
+slice-aggregate-show-sets-2 c = search needs
+
+-- the sets that are counted
+fits : (l : tie.After-found) → l .found .given .0 .0 ≤ 1024
+fits l =
+    let q = l .before .before .before .before .before .before .before .blocking-sets in
+    blocking-all _ _ _ _ _ _ (subst (ListsBlocking _ allowance _ _) (l .found .given .1) (q .ensures)) .fits
+
+show-sets-requires : tie.Need-show-sets-requires
+show-sets-requires c κs = search (needs, fits (c .before .before .before))
+
+together : (c : tie.After-show-sets) →
+    let p = c .before .before .before .before .before .before .before .before in
+    p .put-blocking .result + c .show-sets .result ≤ 512 * 1025
+together c =
+    let l = c .before .before .before .before in
+    let p = l .before .before .before .before in
+    omega (arith, p .put-blocking .ensures .within, c .show-sets .ensures .within, fits l)
+
+add-result : tie.Need-add-result
+add-result c = search (needs, together c)
 
 returns-2 : tie.Need-returns-2
-returns-2 c = search needs
+returns-2 c =
+    let l = c .before .before .before .before in
+    let p = l .before .before .before .before in
+    let q = p .before .before .before .blocking-sets in
+    let k = p .put-blocking .ensures in
+    record {
+      counted = followed word.blocking word.b (q .last .1 .1 .0) _ (q .result) (blocking-shown _ _ _ _ refl (q .ensures)) _ (k .written .count) _ _ (l .found .given .1) _ (c .show-sets .ensures .counted);
+      within = together c;
+    }
 
 pub show-blocking-spec : {M : Type 1} → statement M
 show-blocking-spec =
@@ -43,5 +84,8 @@ show-blocking-spec =
     show-requires
     enum-known-found
     returns
-    show-blocks-requires
+    slice-aggregate-show-sets
+    slice-aggregate-show-sets-2
+    show-sets-requires
+    add-result
     returns-2)

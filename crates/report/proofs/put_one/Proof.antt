@@ -10,10 +10,11 @@ use Rattle.decimal.specs.Bytes.{Written}
 use Rattle.decimal.proofs.Place.{within, room, next}
 use Rattle.lines.specs.Lines.{lastText}
 use Rattle.report.specs.Fields.{tabbed}
+use Rattle.report.specs.Report.{setLine}
 use Rattle.report.proofs.Rows.{both, set-parts}
 use Rattle.report.proofs.Longest.{set-longest}
-use Rattle.report.proofs.set_line.Statement.{statement}
-use Rattle.report.proofs.set_line.Tie as tie
+use Rattle.report.proofs.put_one.Statement.{statement}
+use Rattle.report.proofs.put_one.Tie as tie
 
 -- the parts
 abbrev head : tie.Start → List ℕ
@@ -77,6 +78,7 @@ same-length : tie.Need-same-length
 same-length c = search needs
 
 returns : tie.Need-returns
+unfolding setLine
 returns c =
     let p = c .before .before in
     let s = p .before .before .before .before .before .before .before .before in
@@ -85,8 +87,8 @@ returns c =
       within = omega (arith, second p .count, most s);
     }
 
-pub set-line-spec : {M : Type 1} → statement M
-set-line-spec =
+pub put-one-spec : {M : Type 1} → statement M
+put-one-spec =
     tie.close
     (tie.spec
     put-word-requires
