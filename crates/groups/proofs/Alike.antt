@@ -46,7 +46,7 @@ not-ended t r e = leb-false (records t) r (or-fails (leb (records t) r) (eqb (le
 -- ---- walks in step
 module _ (f : ℕ → Bool) (t : List ℕ) (k : ℕ) where
   -- no walk goes past the end of a set
-  from-last : (r : ℕ) → setEnds t r ≡ true → innerFrom f t k r ≡ 0
+  pub from-last : (r : ℕ) → setEnds t r ≡ true → innerFrom f t k r ≡ 0
   unfolding setEnds
   from-last r e =
       ⊎-elim (λ p. from-end f t k r (leb-true (records t) r p))

@@ -17,7 +17,7 @@ fn same_record(t: &[u64], a: usize, b: usize) -> bool
 }
 
 // Whether a quorum set that has come to record r is at its end: no record is left, or this one opens the next node.
-fn set_ends(t: &[u64], r: usize) -> bool
+pub fn set_ends(t: &[u64], r: usize) -> bool
     ensures { λ o. ⌜ o ≡ setEnds (now (t .entry)) r ⌝ }
 {
     t.len() / 2 <= r || tables::level(t, r) == 0
