@@ -1,7 +1,7 @@
 -- Those who stay of all groups together are those whom a round leaves: a node present is in some group, and judging that group's set is
 -- judging the node's own.
 use mathlib.Core.Path.{_≡_, refl, sym, ap, _∙_, subst}
-use mathlib.Core.Bool.{Bool, true, false, not, _&&_}
+use mathlib.Core.Bool.{Bool, true, false}
 use mathlib.Core.List.{List}
 use mathlib.Core.Logic.{_⊎_, inl, inr, ⊎-elim}
 use Prim.Native.Nat.{ℕ, zero, suc, _+_, _*_, _^_, _≤_, _<_}
@@ -10,15 +10,14 @@ use native.Mathlib.Numerals.{add-one}
 use native.Mathlib.Omega.{arith}
 use borrow.Author.Tests.{eqb-true, eqb-false, eq-eqb, ne-eqb}
 use lib.Pow.{pow-pos}
-use Rattle.sets.specs.Sets.{has, nobody, _∪_, _∩_, _∖_, empty, within, size, lowest, each}
-use Rattle.sets.proofs.Bools.{either, clash, fails, and-both, and-left-fails}
-use Rattle.sets.proofs.Members.{In, Sub, has-below, ∪-left, ∪-right, ∪-cases, ∪-lt, ∩-in, ∩-out, ∩-lt, ∖-lt, none-in, sub-antisym, sub-within, each-at, at-each}
+use Rattle.sets.specs.Sets.{nobody, _∪_, _∩_, _∖_, size, lowest, each}
+use Rattle.sets.proofs.Bools.{either, clash, fails}
+use Rattle.sets.proofs.Members.{In, Sub, has-below, ∪-left, ∪-right, ∪-cases, ∪-lt, ∩-in, ∩-out, ∩-lt, ∖-lt, none-in, sub-antisym, each-at, at-each}
 use Rattle.sets.proofs.Lowest.{lowest-in}
 use Rattle.sets.proofs.Size.{le-or-lt, size-le}
 use Rattle.meanings.specs.Table.{nodes, satisfies, satisfied}
-use Rattle.meanings.specs.Quorums.{ground, quorum, greatest}
+use Rattle.meanings.specs.Quorums.{greatest}
 use Rattle.meanings.specs.Rounds.{round, lastRound, roundsFrom, leftFrom, rounds, survivors}
-use Rattle.theory.proofs.Quorum.{quorum-is, ground-in}
 use Rattle.theory.proofs.Rounds.{round-lt, round-in, round-out, round-less, is-last, is-not-last, left-stops, left-goes-on, rounds-stop, rounds-go-on, survivors-greatest}
 use Rattle.judge.proofs.Monotone.{satisfied-monotone}
 use Rattle.groups.specs.Groups.{recordAt, nodesAt, Grouped, whereTrue, staying, stayingOf}
@@ -190,24 +189,3 @@ module _ (t plan : List ℕ) (groups with c : ℕ) (w : Grouped t plan groups) (
       let q = ∩-out c (nodesAt plan g) i m in
       clash (satisfied t with i) (each-at (nodes t) c (λ v. satisfied t with v) e i (q .0)) (w .alike g i with l (q .1) ∙ x))
       (either (satisfies 3 t with (recordAt plan g))))
-
--- the tests of a quorum, one after another
-module _ (n : ℕ) (s : ℕ → ℕ → Bool) (d c : ℕ) where
-  pub no-nodes : c ≡ nobody → false ≡ quorum n s d c
-  unfolding quorum
-  no-nodes e = sym (and-left-fails (not (empty c) && within c (ground n s d)) (each n c (λ v. s (c ∪ d) v))
-      (and-left-fails (not (empty c)) (within c (ground n s d)) (ap not (eq-eqb c 0 e))))
-
-  pub counted-out : ¬ (c ∩ d ≡ nobody) → c < 2 ^ n → false ≡ quorum n s d c
-  counted-out z h =
-      sym (fails (quorum n s d c) (λ e.
-      z (sub-antisym n (c ∩ d) nobody (∩-lt n c d h) (pow-pos n)
-      (λ i p. let q = ∩-out c d i p in clash (has d i) (q .1) (quorum-is n s d c e .apart i (q .0)))
-      (λ i p. none-in nobody i refl p))))
-
-  pub as-settled : ¬ (c ≡ nobody) → c ∩ d ≡ nobody → c < 2 ^ n → each n c (λ v. s (c ∪ d) v) ≡ quorum n s d c
-  unfolding quorum
-  as-settled z e h =
-      sym (ap (λ (b : Bool). b && each n c (λ v. s (c ∪ d) v))
-      (and-both (not (empty c)) (within c (ground n s d)) (ap not (ne-eqb c 0 z))
-      (sub-within n c (ground n s d) h (λ i p. ground-in n s d i (has-below n c i h p) (fails (has d i) (λ x. none-in (c ∩ d) i e (∩-in c d i p x)))))))

@@ -1,5 +1,6 @@
 pub mod Quorum
 pub mod Greatest
+pub mod Tests
 pub mod Rounds
 pub mod Walks
 pub mod QuorumTree

@@ -1,7 +1,7 @@
 -- Not empty, apart from d, and every node satisfied: the three tests of the definition, in their order.
 use mathlib.Core.Path.{_≡_, _∙_}
 use Rattle.meanings.specs.Table.{nodes, satisfied}
-use Rattle.rounds.proofs.Laws.{no-nodes, counted-out, as-settled}
+use Rattle.theory.proofs.Tests.{no-nodes, counted-out, as-settled}
 use borrow.Author.Needs.{needs}
 use Rattle.rounds.proofs.quorum.Statement.{statement}
 use Rattle.rounds.proofs.quorum.Tie as tie
