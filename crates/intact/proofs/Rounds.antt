@@ -107,23 +107,12 @@ module _ (t : List ℕ) where
   others q = everyone n ∖ q
 
   -- what it asks of the search: with all but q counted out, the ground is q
-  pub visiting : (plan : List ℕ) (groups all q out count : ℕ) → Asked t plan groups all q → out ≡ all ∖ q → count ≡ size 64 q
-      → Visiting t plan groups out q (count / 2) nobody q
-  visiting plan groups all q out count a e f =
-      let n64 = sound-table t (a .grouped .checked) .nodes-le in
-      record {
-        grouped = a .grouped;
-        ground-is = sym (ground-others n s q (a .inside)) ∙ ap (ground n s) (sym (e ∙ ap (λ (x : ℕ). x ∖ q) (a .all-is)));
-        half-is = ap (λ (x : ℕ). x / 2) (f ∙ size-at n q (a .inside) 64 n64);
-        chosen = pow-pos n;
-        open-nodes = a .inside;
-      }
+  -- with all but q counted out, the ground is q
+  pub counted-out : (all q out : ℕ) → all ≡ everyone n → out ≡ all ∖ q → out ≡ others q
+  counted-out all q out a e = e ∙ ap (λ (x : ℕ). x ∖ q) a
 
-  pub tree-is : (all q out : ℕ) → q < 2 ^ n → all ≡ everyone n → out ≡ all ∖ q → walk (treeOf t out nobody q) ≡ verdict n s (others q)
-  unfolding verdictTree
-  tree-is all q out h a e =
-      ap (λ (x : ℕ). walk (treeOf t x nobody q)) (e ∙ ap (λ (x : ℕ). x ∖ q) a)
-      ∙ ap (λ (x : ℕ). walk (treeOf t (others q) nobody x)) (sym (ground-others n s q h))
+  pub ground-is : (all q out : ℕ) → q < 2 ^ n → all ≡ everyone n → out ≡ all ∖ q → q ≡ ground n s out
+  ground-is all q out h a e = sym (ground-others n s q h) ∙ ap (ground n s) (sym (counted-out all q out a e))
 
   module _ (u allowance spent q : ℕ) (q-is : q ≡ greatest n s nobody u) (v : Verdict) (says : v ≡ verdictWithin allowance spent (verdict n s (others q))) where
     verdict-is : v ≡ verdictWithin allowance spent (verdict n s (others (greatest n s nobody u)))

@@ -11,13 +11,13 @@ use Rattle.answers.specs.declared.Verdict.{Verdict}
 use Rattle.answers.specs.declared.Verdict.the-variants as Vx
 use Rattle.answers.specs.declared.Intact.{Intact}
 use Rattle.answers.specs.declared.Intact.the-variants as Ix
-use Rattle.groups.specs.Groups.{Grouped}
+use Rattle.plans.specs.Plans.{Planned}
 use Rattle.intact.specs.declared.Turn.{Turn}
 use Rattle.intact.specs.declared.Turn.the-variants as Tx
 
 -- what the rounds ask of their caller: a plan of the table, all its nodes, and a set of them
-pub record Asked (t plan : List ℕ) (groups all u : ℕ) : Type 0 where
-  pub grouped : Grouped t plan groups
+pub record Asked (t plan : List ℕ) (all u : ℕ) : Type 0 where
+  pub planned : Planned t plan
   pub all-is : all ≡ everyone (nodes t)
   pub inside : u < 2 ^ nodes t
 

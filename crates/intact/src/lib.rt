@@ -2,13 +2,13 @@
 // allowance of visits that serves all their verdicts in turn.
 ghost use mathlib.Core.Path.{_≡_};
 ghost use mathlib.Core.Bool.{true};
-ghost use Prim.Native.Nat.{suc};
+ghost use Prim.Native.Nat.{suc, _<_, _^_};
 ghost use Rattle.sets.specs.Sets.{everyone, _∖_, within as withinSet};
 ghost use Rattle.meanings.specs.Table.{nodes as nodesOf, satisfied};
 ghost use Rattle.meanings.specs.Faults.{check, sound};
 ghost use Rattle.meanings.specs.Trees.{walk, verdictTree};
 ghost use Rattle.meanings.specs.Intact.{nextU, roundsFrom, intactSearch};
-ghost use Rattle.rounds.specs.Rounds.{Ground};
+ghost use Rattle.plans.specs.Plans.{Planned};
 ghost use Rattle.verdict.specs.Search.{within as verdictWithin};
 ghost use Rattle.intact.specs.Rounds.{Asked, Turned, within, handedOn, onYes, onNo};
 ghost use Rattle.intact.specs.Promise.{IntactPromise};
@@ -62,31 +62,22 @@ fn divided(found: Verdict) -> Intact
 }
 
 // Do all quorums intersect, with all but q counted out? Where q is all nodes, this is the plain verdict.
-pub fn verdict_of(
-    t: &[u64],
-    plan: &[u64],
-    groups: usize,
-    all: u64,
-    q: u64,
-    allowance: u64,
-    spent: u64,
-) -> Verdict
-    requires { ⌜ Asked (now t) (now plan) groups all q ⌝ }
+pub fn verdict_of(t: &[u64], plan: &[u64], all: u64, q: u64, allowance: u64, spent: u64) -> Verdict
+    requires { ⌜ Asked (now t) (now plan) all q ⌝ }
     ensures { λ o. ⌜ o ≡ verdictWithin allowance spent (walk (verdictTree (nodesOf (now (t .entry))) (satisfied (now (t .entry))) (everyone (nodesOf (now (t .entry))) ∖ q))) ⌝ }
 {
     let out = sets::without(all, q);
-    let half = sets::count(q) / 2;
-    verdict::search(t, plan, groups, out, q, half, 0, q, allowance, spent)
+    verdict::search_from(t, plan, out, q, allowance, spent)
 }
 
 // Where to go on after a round that found two quorums apart in q: W1 and W2 are the greatest plain quorums in q without the first and
 // without the second; W2 if W1 is empty, W1 if W2 is empty, otherwise what they share.
-fn next(t: &[u64], plan: &[u64], groups: usize, q: u64, first: u64, second: u64) -> u64
-    requires { ⌜ Ground (now t) (now plan) groups q ⌝ }
+fn next(t: &[u64], plan: &[u64], q: u64, first: u64, second: u64) -> u64
+    requires { ⌜ (Planned (now t) (now plan)) × (q < 2 ^ nodesOf (now t)) ⌝ }
     ensures { λ o. ⌜ o ≡ nextU (nodesOf (now (t .entry))) (satisfied (now (t .entry))) q (record { first = first; second = second }) ⌝ }
 {
-    let w1 = rounds::survivors(t, plan, groups, 0, sets::without(q, first)).set;
-    let w2 = rounds::survivors(t, plan, groups, 0, sets::without(q, second)).set;
+    let w1 = lasting::plain(t, plan, sets::without(q, first));
+    let w2 = lasting::plain(t, plan, sets::without(q, second));
     if w1 == 0 {
         return w2;
     }
@@ -97,20 +88,12 @@ fn next(t: &[u64], plan: &[u64], groups: usize, q: u64, first: u64, second: u64)
 }
 
 // One round from the nodes left, after so many visits: q is the greatest plain quorum in them, and the verdict with all but q counted out decides.
-fn round(
-    t: &[u64],
-    plan: &[u64],
-    groups: usize,
-    all: u64,
-    left: u64,
-    allowance: u64,
-    spent: u64,
-) -> Turn
-    requires { ⌜ Asked (now t) (now plan) groups all left ⌝ }
+fn round(t: &[u64], plan: &[u64], all: u64, left: u64, allowance: u64, spent: u64) -> Turn
+    requires { ⌜ Asked (now t) (now plan) all left ⌝ }
     ensures { λ o. ⌜ Turned (now (t .entry)) left allowance spent o ⌝ }
 {
-    let q = rounds::survivors(t, plan, groups, 0, left).set;
-    let found = verdict_of(t, plan, groups, all, q, allowance, spent);
+    let q = lasting::plain(t, plan, left);
+    let found = verdict_of(t, plan, all, q, allowance, spent);
     let Verdict::No {
         first,
         second,
@@ -119,27 +102,19 @@ fn round(
     else {
         return Turn::Ended(settled(q, found));
     };
-    let u = next(t, plan, groups, q, first, second);
+    let u = next(t, plan, q, first, second);
     Turn::Next { u, visits }
 }
 
 // The rounds from u on, after so many visits. A round that is not the last leaves fewer nodes, so the rounds end.
-pub fn rounds_from(
-    t: &[u64],
-    plan: &[u64],
-    groups: usize,
-    all: u64,
-    u: u64,
-    allowance: u64,
-    spent: u64,
-) -> Intact
-    requires { ⌜ Asked (now t) (now plan) groups all u ⌝ }
+pub fn rounds_from(t: &[u64], plan: &[u64], all: u64, u: u64, allowance: u64, spent: u64) -> Intact
+    requires { ⌜ Asked (now t) (now plan) all u ⌝ }
     ensures { λ o. ⌜ o ≡ within allowance spent (roundsFrom (nodesOf (now (t .entry))) (satisfied (now (t .entry))) (suc (nodesOf (now (t .entry)))) u) ⌝ }
 {
     let mut left = u;
     let mut visits = spent;
     loop {
-        let turn = round(t, plan, groups, all, left, allowance, visits);
+        let turn = round(t, plan, all, left, allowance, visits);
         match turn {
             Turn::Ended(answer) => return answer,
             Turn::Next {
@@ -154,23 +129,16 @@ pub fn rounds_from(
 }
 
 // The plain verdict, and where it is yes the rounds, from all nodes outside the ill set on, after its visits.
-fn verdict_then_rounds(
-    t: &[u64],
-    plan: &[u64],
-    groups: usize,
-    all: u64,
-    ill: u64,
-    allowance: u64,
-) -> Intact
-    requires { ⌜ Asked (now t) (now plan) groups all ill ⌝ }
+fn verdict_then_rounds(t: &[u64], plan: &[u64], all: u64, ill: u64, allowance: u64) -> Intact
+    requires { ⌜ Asked (now t) (now plan) all ill ⌝ }
     ensures { λ o. ⌜ o ≡ within allowance 0 (intactSearch (nodesOf (now (t .entry))) (satisfied (now (t .entry))) ill) ⌝ }
 {
-    let plain = verdict_of(t, plan, groups, all, all, allowance, 0);
+    let plain = verdict_of(t, plan, all, all, allowance, 0);
     let Verdict::Yes { visits } = plain else {
         return divided(plain);
     };
     let well = sets::without(all, ill);
-    rounds_from(t, plan, groups, all, well, allowance, visits)
+    rounds_from(t, plan, all, well, allowance, visits)
 }
 
 // The intact nodes of a sound table, for an ill set of its nodes.
@@ -178,10 +146,10 @@ fn intact_of(t: &[u64], nodes: u64, ill: u64, allowance: u64) -> Intact
     requires { ⌜ (check (now t) ≡ sound) × (nodes ≡ nodesOf (now t)) × (withinSet ill (everyone (nodesOf (now t))) ≡ true) ⌝ }
     ensures { λ o. ⌜ o ≡ within allowance 0 (intactSearch (nodesOf (now (t .entry))) (satisfied (now (t .entry))) ill) ⌝ }
 {
-    let mut plan = [0u64; 128];
-    let groups = groups::group(t, &mut plan);
+    let mut plan = [0u64; 192];
+    plans::plan(t, nodes, &mut plan);
     let all = sets::all(nodes);
-    verdict_then_rounds(t, &plan, groups, all, ill, allowance)
+    verdict_then_rounds(t, &plan, all, ill, allowance)
 }
 
 // Which nodes are intact for an ill set: those that some DSet around the ill set leaves out. Answered only where all plain quorums

@@ -9,7 +9,6 @@ use Rattle.meanings.specs.Quorums.{minimalQuorums, minimalBlockingSets}
 use Rattle.meanings.specs.Trees.{Tree}
 use Rattle.meanings.specs.Replies.{Reply, leaves}
 use Rattle.meanings.specs.Questions.{minimalReply, blockingReply}
-use Rattle.groups.specs.Groups.{Grouped}
 use Rattle.answers.specs.declared.Listed.{Listed}
 use Rattle.answers.specs.Said.{listedSays}
 use Rattle.visits.specs.declared.Sought.{Sought}
@@ -33,8 +32,3 @@ ListsBlocking t allowance before after o =
 -- the tree from C empty and R = all
 abbrev pub treeOf : List ℕ → Sought → Tree ℕ
 treeOf t sought = treeAt (nodes t) (satisfied t) sought nobody (everyone (nodes t))
-
--- what a whole search asks of its caller: a plan of the table, and all its nodes
-pub record Ready (t plan : List ℕ) (groups all : ℕ) : Type 0 where
-  pub grouped : Grouped t plan groups
-  pub whole : all ≡ everyone (nodes t)

@@ -8,7 +8,8 @@ ghost use lib.ListN.{length, take, drop};
 ghost use Rattle.meanings.specs.Faults.{check};
 ghost use Rattle.meanings.specs.Trees.{list};
 ghost use Rattle.meanings.specs.Questions.{onCheck, listSays, listPuts};
-ghost use Rattle.lists.specs.Lists.{Ready, Promised, ListsMinimal, ListsBlocking, treeOf};
+ghost use Rattle.visits.specs.Visits.{Ground};
+ghost use Rattle.lists.specs.Lists.{Promised, ListsMinimal, ListsBlocking, treeOf};
 use answers::Checked;
 use answers::Listed;
 use visits::Sought;
@@ -28,11 +29,13 @@ fn copy(from: &[u64], to: &mut [u64], count: usize)
 
 // Walks a whole tree; 9 and 13 come from the walk, 10 after it, and only then is the lent list written.
 fn fill(t: &[u64], plan: &[u64], s: Search, lent: &mut [u64]) -> Listed
-    requires { ⌜ Ready (now t) (now plan) (s .groups) (s .all) ⌝ }
+    requires { ⌜ Ground (now t) (now plan) (s .all) ⌝ }
     ensures { λ o. ⌜ Promised (listSays (s .allowance) (length (now (lent .entry))) (list (treeOf (now (t .entry)) (s .sought)))) (listPuts (list (treeOf (now (t .entry)) (s .sought)))) (now (lent .entry)) (now (lent .exit)) o ⌝ }
 {
+    let sought = s.sought;
+    let root = visits::root(t, plan, sought, s.all);
     let mut own = [0u64; 1024];
-    let walked = walks::walk(t, plan, s, 0, s.all, 0, 0, &mut own);
+    let walked = walks::walk(t, plan, s, root, 0, 0, &mut own);
     let Listed::Sets { count, visits: _ } = walked else {
         return walked;
     };
@@ -40,13 +43,13 @@ fn fill(t: &[u64], plan: &[u64], s: Search, lent: &mut [u64]) -> Listed
         return Listed::Short { count };
     }
     if 1024 < count {
-        return walks::walk(t, plan, s, 0, s.all, 0, 0, lent);
+        return walks::walk(t, plan, s, root, 0, 0, lent);
     }
     copy(&own, lent, count as usize);
     walked
 }
 
-// Numbers 1 to 7 come first; a sound table's nodes are grouped once for the whole search.
+// Numbers 1 to 7 come first; the plan of a sound table is found once for the whole search.
 fn answer(table: &[u64], sought: Sought, allowance: u64, lent: &mut [u64]) -> Listed
     ensures { λ o. ⌜ Promised (onCheck (check (now (table .entry))) (listSays allowance (length (now (lent .entry))) (list (treeOf (now (table .entry)) sought)))) (listPuts (list (treeOf (now (table .entry)) sought))) (now (lent .entry)) (now (lent .exit)) o ⌝ }
 {
@@ -54,12 +57,11 @@ fn answer(table: &[u64], sought: Sought, allowance: u64, lent: &mut [u64]) -> Li
     let Checked::Sound { nodes, records: _ } = checked else {
         return Listed::Bad(quorums::fault_of(checked));
     };
-    let mut plan = [0u64; 128];
-    let groups = groups::group(table, &mut plan);
+    let mut plan = [0u64; 192];
+    plans::plan(table, nodes, &mut plan);
     let all = sets::all(nodes);
     let s = Search {
         sought,
-        groups,
         all,
         allowance,
     };

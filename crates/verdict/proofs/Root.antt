@@ -1,31 +1,23 @@
--- The visit that a search starts with.
-use mathlib.Core.Path.{_≡_, refl, sym, ap, ap₂, _∙_, subst}
+-- The ground, and what a part of it asks for the greatest quorum in it.
+use mathlib.Core.Path.{_≡_, refl, ap, _∙_, subst}
 use mathlib.Core.List.{List}
-use Prim.Native.Nat.{ℕ, _/_, _^_, _<_}
-use lib.Pow.{pow-pos}
-use Rattle.sets.specs.Sets.{nobody, everyone, _∖_, size}
-use Rattle.sets.proofs.Size.{size-at}
+use Prim.Native.Nat.{ℕ, _^_, _<_}
+use Rattle.sets.specs.Sets.{nobody, everyone, _∖_}
+use Rattle.sets.proofs.Members.{In, Sub}
 use Rattle.meanings.specs.Table.{nodes, satisfied}
-use Rattle.meanings.specs.Faults.{check, sound}
-use Rattle.meanings.specs.Quorums.{ground}
-use Rattle.theory.proofs.Quorum.{ground-lt}
-use Rattle.tables.proofs.Sound.{sound-table}
-use Rattle.groups.specs.Groups.{Grouped}
-use Rattle.verdict.specs.Search.{Visiting}
+use Rattle.meanings.specs.Quorums.{ground as groundIs}
+use Rattle.theory.proofs.Quorum.{ground-out}
+use Rattle.lasting.specs.Lasting.{Due, Apart}
+use Rattle.lasting.proofs.Below.{all-due, none-within}
 
-pub ground-of : (t : List ℕ) (d n all g : ℕ) → n ≡ nodes t → all ≡ everyone n → g ≡ all ∖ d → g ≡ ground (nodes t) (satisfied t) d
-unfolding ground
+pub ground-of : (t : List ℕ) (d n all g : ℕ) → n ≡ nodes t → all ≡ everyone n → g ≡ all ∖ d → g ≡ groundIs (nodes t) (satisfied t) d
+unfolding groundIs
 ground-of t d n all g en ea eg = eg ∙ ap (λ (x : ℕ). x ∖ d) (ea ∙ ap everyone en)
 
-pub root : (t plan : List ℕ) (groups d n all g k : ℕ) → check t ≡ sound → n ≡ nodes t → Grouped t plan groups → all ≡ everyone n → g ≡ all ∖ d → k ≡ size 64 g
-    → Visiting t plan groups d g (k / 2) nobody g
-root t plan groups d n all g k c en w ea eg ek =
-    let e = ground-of t d n all g en ea eg in
-    let h : g < 2 ^ nodes t = subst (λ (x : ℕ). x < 2 ^ nodes t) (sym e) (ground-lt (nodes t) (satisfied t) d) in
-    record {
-      grouped = w;
-      ground-is = e;
-      half-is = ap (λ (x : ℕ). x / 2) (ek ∙ size-at (nodes t) g h 64 (sound-table t c .nodes-le));
-      chosen = pow-pos (nodes t);
-      open-nodes = h;
-    }
+-- nobody of the ground is counted out
+pub ground-apart : (t : List ℕ) (d ground u : ℕ) → ground ≡ groundIs (nodes t) (satisfied t) d → Sub u ground → Apart d u
+ground-apart t d ground u e f i p = ground-out (nodes t) (satisfied t) d i (subst (λ (x : ℕ). In x i) e (f i p)) .1
+
+-- a part of the ground, all of it due
+pub ground-due : (t : List ℕ) (d ground u : ℕ) → ground ≡ groundIs (nodes t) (satisfied t) d → u < 2 ^ nodes t → Sub u ground → Due t d u u nobody
+ground-due t d ground u e h f = all-due t d u nobody h (ground-apart t d ground u e f) (none-within u)

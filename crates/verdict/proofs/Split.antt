@@ -1,48 +1,58 @@
--- The two visits below a split: what they ask of the search, and how their walks make up the whole.
+-- The two visits below a split, and how their walks make up the whole.
 use mathlib.Core.Path.{_≡_, refl, sym, ap, ap₂, _∙_, subst}
 use mathlib.Core.List.{List, [], _∷_}
 use mathlib.Core.Logic.{⊎-elim}
 use types.Run.{OneOf}
 use denote.Enum.Declared.{tagOf}
-use Prim.Native.Nat.{ℕ, suc, _^_, _≤_, _<_}
+use Prim.Native.Nat.{ℕ, suc, _≤_, _<_}
 use native.Mathlib.Omega.{arith}
-use lib.Pow.{pow-lt}
 use Rattle.sets.specs.Sets.{nobody, only, _∪_, _∖_, size, lowest}
-use Rattle.sets.proofs.Members.{∪-lt, ∖-lt}
-use Rattle.sets.proofs.Size.{size-at}
-use Rattle.sets.proofs.Lowest.{lowest-at}
+use Rattle.sets.proofs.Members.{In}
 use Rattle.meanings.specs.Table.{nodes, satisfied}
-use Rattle.meanings.specs.Trees.{walk, thenWalk}
+use Rattle.meanings.specs.Trees.{walk, thenWalk, stuck}
+use Rattle.theory.proofs.QuorumTree.{choices, chosen-in}
+use Rattle.tables.proofs.Sound.{sound-table}
+use Rattle.branches.specs.declared.Visit.{Visit}
+use Rattle.branches.specs.Branches.{Stands, Ready}
+use Rattle.branches.proofs.Laws.{reached}
 use Rattle.answers.specs.declared.Verdict.{Verdict}
 use Rattle.answers.specs.declared.Verdict.the-variants.{Yes, No, Spent, Unsplit, Outside, Bad}
-use Rattle.verdict.specs.Search.{Visiting, Splitting, treeOf}
+use Rattle.verdict.specs.Search.{Splitting, treeOf}
 use Rattle.verdict.proofs.Looks as Looks
 use Rattle.verdict.proofs.Allowance.{NotYes}
 
-pub record Below (t plan : List ℕ) (groups d ground half c r v b : ℕ) : Type 0 where
-  pub first : Visiting t plan groups d ground half c b
-  pub second : Visiting t plan groups d ground half (c ∪ v) b
-  pub fewer : size 64 b < size 64 r
-  pub parts : walk (treeOf t d c r) ≡ thenWalk (walk (treeOf t d c b)) (walk (treeOf t d (c ∪ v) b))
+module _ (t plan : List ℕ) (d : ℕ) (a : Visit) (S : Stands t plan d a) (due : ℕ) (w : Splitting t d a due) (on : ℕ) (eo : on ≡ a .g ∖ a .c) where
+  on-is : on ≡ choices (nodes t) (satisfied t) d (a .c) (a .r)
+  on-is = eo ∙ ap (λ (x : ℕ). x ∖ a .c) (reached t plan d a S (w .waiter .not-dry) .1)
 
-pub below-split : (t plan : List ℕ) (groups d ground half c r m : ℕ) → Visiting t plan groups d ground half c r → Splitting t d c r m → ¬ (m ≡ nobody) → nodes t ≤ 64
-    → (i v b : ℕ) → i ≡ lowest 64 m → v ≡ only i → b ≡ m ∖ v → Below t plan groups d ground half c r v b
-below-split t plan groups d ground half c r m p w z n64 i v b ei ev eb =
-    let n = nodes t in
-    let hm = Looks.m-lt t d c r m w z in
-    let low : i ≡ lowest n m = ei ∙ lowest-at n m z hm 64 n64 in
-    let v-is : v ≡ only (lowest n m) = ev ∙ ap only low in
-    let hb : b < 2 ^ n = subst (λ (x : ℕ). x < 2 ^ n) (sym eb) (∖-lt n m v hm) in
-    let hv : v < 2 ^ n = subst (λ (x : ℕ). x < 2 ^ n) (sym v-is) (pow-lt (Looks.low-lt t d c r m w z)) in
-    let f = Looks.rest-fewer t d c r m w z v b v-is eb (p .open-nodes) in
-    let sb = size-at n b hb 64 n64 in
-    let sr = size-at n r (p .open-nodes) 64 n64 in
-    record {
-      first = record { grouped = p .grouped; ground-is = p .ground-is; half-is = p .half-is; chosen = p .chosen; open-nodes = hb };
-      second = record { grouped = p .grouped; ground-is = p .ground-is; half-is = p .half-is; chosen = ∪-lt n c v (p .chosen) hv; open-nodes = hb };
-      fewer = omega arith;
-      parts = Looks.parts t d c r m w z v b v-is eb (p .chosen) (p .open-nodes);
-    }
+  small : nodes t ≤ 64
+  small = sound-table t (S .planned .checked) .nodes-le
+
+  pub no-choice : on ≡ nobody → walk (treeOf t d (a .c) (a .r)) ≡ stuck 1
+  no-choice = Looks.no-choice t d (a .c) (a .r) (w .few) (w .waiter .not-dry) (w .waiter .no-quorum) on on-is
+
+  module _ (z : ¬ (on ≡ nobody)) (v : ℕ) (ev : v ≡ lowest 64 on) where
+    low : v ≡ lowest (nodes t) (choices (nodes t) (satisfied t) d (a .c) (a .r))
+    low = ev ∙ Looks.low t d (a .c) (a .r) (w .few) (w .waiter .not-dry) (w .waiter .no-quorum) on on-is z small
+
+    pub ready : Ready t d a v due
+    ready =
+        record {
+          waiter = w .waiter;
+          one-in = subst (λ (x : ℕ). In x v) (sym on-is ∙ eo)
+              (subst (In (choices (nodes t) (satisfied t) d (a .c) (a .r))) (sym low) (chosen-in (nodes t) (satisfied t) d (a .c) (a .r) (λ e. z (on-is ∙ e))));
+        }
+
+    -- b is what stays open
+    module _ (b : ℕ) (eb : b ≡ a .g ∖ a .c ∖ only v) where
+      abbrev b-is : b ≡ on ∖ only v
+      b-is = eb ∙ ap (λ (x : ℕ). x ∖ only v) (sym eo)
+
+      pub fewer : size 64 b < size 64 (a .r)
+      fewer = Looks.rest-fewer t d (a .c) (a .r) (w .few) (w .waiter .not-dry) (w .waiter .no-quorum) on on-is z small (S .open-in) v b ev b-is
+
+      pub parts : walk (treeOf t d (a .c) (a .r)) ≡ thenWalk (walk (treeOf t d (a .c) b)) (walk (treeOf t d (a .c ∪ only v) b))
+      parts = Looks.parts t d (a .c) (a .r) (w .few) (w .waiter .not-dry) (w .waiter .no-quorum) on on-is z small (S .waiting .below) (S .open-in) v b ev b-is
 
 -- an answer that is not the first case is no yes
 pub not-yes : (o : Verdict) → OneOf (1 ∷ 2 ∷ 3 ∷ 4 ∷ 5 ∷ []) (tagOf Rattle.answers.proofs.Verdict.the-type o) → NotYes o

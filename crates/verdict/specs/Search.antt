@@ -1,16 +1,18 @@
 -- The verdict's search, a visit at a time, and its answer within an allowance.
 use mathlib.Core.Path.{_≡_}
-use mathlib.Core.Bool.{Bool, true, false, cond}
+use mathlib.Core.Bool.{false, cond}
 use mathlib.Core.List.{List}
-use Prim.Native.Nat.{ℕ, suc, _+_, _/_, _^_, _<_}
+use Prim.Native.Nat.{ℕ, suc, _+_, _/_}
 use lib.Dec.{leb}
-use Rattle.sets.specs.Sets.{nobody, _∪_, _∖_, empty, size, within as liesWithin}
+use Rattle.sets.specs.Sets.{size}
 use Rattle.meanings.specs.Table.{nodes, satisfied}
-use Rattle.meanings.specs.Quorums.{ground as groundOf, quorum, greatest}
+use Rattle.meanings.specs.Quorums.{ground as groundOf}
 use Rattle.meanings.specs.Trees.{Tree, Pair, Walk, hit, missed, stuck, quorumTree, overHalf, pairAt, walk}
 use Rattle.answers.specs.declared.Verdict.{Verdict}
 use Rattle.answers.specs.declared.Verdict.the-variants.{Yes, No, Spent, Unsplit}
-use Rattle.groups.specs.Groups.{Grouped}
+use Rattle.branches.specs.declared.Visit.{Visit}
+use Rattle.branches.specs.Branches.{Stands, Waiter}
+use Rattle.verdict.specs.declared.Question.{Question}
 use Rattle.verdict.specs.declared.Step.{Step}
 use Rattle.verdict.specs.declared.Step.the-variants.{Leaf, Pair as PairAt, Split}
 
@@ -19,26 +21,21 @@ abbrev pub treeOf : List ℕ → ℕ → ℕ → ℕ → Tree Pair
 treeOf t d c r =
     quorumTree (nodes t) (satisfied t) d (overHalf (nodes t) (satisfied t) d) (pairAt (nodes t) (satisfied t) d) (suc (nodes t)) c r
 
--- what a visit asks of its caller: a plan of the table, the ground and its half, and sets of its nodes
-pub record Visiting (t plan : List ℕ) (groups d ground half c r : ℕ) : Type 0 where
-  pub grouped : Grouped t plan groups
-  pub ground-is : ground ≡ groundOf (nodes t) (satisfied t) d
-  pub half-is : half ≡ size (nodes t) ground / 2
-  pub chosen : c < 2 ^ nodes t
-  pub open-nodes : r < 2 ^ nodes t
+-- what a visit asks of its caller: what it knows from the one above, and the ground and its half
+pub record Visiting (t plan : List ℕ) (q : Question) (a : Visit) : Type 0 where
+  pub stands : Stands t plan (q .d) a
+  pub ground-is : q .ground ≡ groundOf (nodes t) (satisfied t) (q .d)
+  pub half-is : q .half ≡ size (nodes t) (q .ground) / 2
 
--- what a visit comes to: nothing below it, found or not; or it splits
-pub record Splitting (t : List ℕ) (d c r m : ℕ) : Type 0 where
-  pub few : overHalf (nodes t) (satisfied t) d c ≡ false
-  pub some-quorum : (empty (greatest (nodes t) (satisfied t) d (c ∪ r)) ≡ false)
-  pub all-chosen : liesWithin c (greatest (nodes t) (satisfied t) d (c ∪ r)) ≡ true
-  pub no-quorum : quorum (nodes t) (satisfied t) d c ≡ false
-  pub choices : m ≡ greatest (nodes t) (satisfied t) d (c ∪ r) ∖ c
+-- what a visit comes to: nothing below it, found or not; or it splits, with those nodes of c that are still due
+pub record Splitting (t : List ℕ) (d : ℕ) (a : Visit) (due : ℕ) : Type 0 where
+  pub few : overHalf (nodes t) (satisfied t) d (a .c) ≡ false
+  pub waiter : Waiter t d a due
 
-abbrev pub Looked : List ℕ → ℕ → ℕ → ℕ → Step → Type 0
-Looked t d c r Leaf = walk (treeOf t d c r) ≡ missed 1
-Looked t d c r (PairAt h) = walk (treeOf t d c r) ≡ hit (record { first = c; second = h }) 1
-Looked t d c r (Split m) = Splitting t d c r m
+abbrev pub Looked : List ℕ → ℕ → Visit → Step → Type 0
+Looked t d a Leaf = walk (treeOf t d (a .c) (a .r)) ≡ missed 1
+Looked t d a (PairAt h) = walk (treeOf t d (a .c) (a .r)) ≡ hit (record { first = a .c; second = h }) 1
+Looked t d a (Split due) = Splitting t d a due
 
 -- an answer after so many visits, where it comes within the allowance
 abbrev pub inTime : ℕ → ℕ → Verdict → Verdict

@@ -5,13 +5,25 @@ ghost use Prim.Native.Nat.{ℕ};
 ghost use Rattle.verdict.specs.Search.{Visiting, Looked, within, treeOf};
 ghost use Rattle.meanings.specs.Table.{nodes as nodesOf, satisfied};
 ghost use Rattle.meanings.specs.Faults.{check, sound};
+ghost use Rattle.meanings.specs.Quorums.{ground as groundOf};
 ghost use Rattle.meanings.specs.Trees.{verdictTree, walk};
+ghost use Rattle.plans.specs.Plans.{Planned};
 ghost use Rattle.verdict.specs.Promise.{VerdictPromise};
 use answers::Checked;
 use answers::Verdict;
+use branches::Met;
+use branches::Visit;
 
-// What a visit comes to before it splits: a leaf; a quorum outside the chosen nodes, which are a quorum too; or the nodes that can be
-// split on.
+// What stays the same throughout a search: the nodes counted out, the ground and half its number, and the allowance.
+pub struct Question {
+    pub d: u64,
+    pub ground: u64,
+    pub half: u64,
+    pub allowance: u64,
+}
+
+// What a visit comes to before it splits: a leaf; a quorum outside the chosen nodes, which are a quorum too; or a split, with the chosen
+// nodes that are still due.
 pub enum Step {
     Leaf,
     Pair(u64),
@@ -19,91 +31,85 @@ pub enum Step {
 }
 
 // Steps (1) to (3) of a visit.
-fn look(
-    t: &[u64],
-    plan: &[u64],
-    groups: usize,
-    d: u64,
-    ground: u64,
-    half: u64,
-    c: u64,
-    r: u64,
-) -> Step
-    requires { ⌜ Visiting (now t) (now plan) groups d ground half c r ⌝ }
-    ensures { λ o. ⌜ Looked (now (t .entry)) d c r o ⌝ }
+fn look(t: &[u64], plan: &[u64], q: Question, a: Visit) -> Step
+    requires { ⌜ Visiting (now t) (now plan) q a ⌝ }
+    ensures { λ o. ⌜ Looked (now (t .entry)) (q .d) a o ⌝ }
 {
-    if half < sets::count(c) {
+    if q.half < sets::count(a.c) {
         return Step::Leaf;
     }
-    let g = rounds::survivors(t, plan, groups, d, c | r).set;
-    if g == 0 {
-        return Step::Leaf;
-    }
-    if c & g != c {
-        return Step::Leaf;
-    }
-    if rounds::quorum(t, plan, groups, d, c) {
-        let h = rounds::survivors(t, plan, groups, d, sets::without(ground, c)).set;
-        if h == 0 {
-            return Step::Leaf;
+    let met = branches::meet(t, plan, q.d, a);
+    match met {
+        Met::Dry => Step::Leaf,
+        Met::Waits(due) => Step::Split(due),
+        Met::Quorum => {
+            let rest = sets::without(q.ground, a.c);
+            let h = lasting::lasting(t, plan, q.d, rest, rest, 0);
+            if h == 0 {
+                return Step::Leaf;
+            }
+            Step::Pair(h)
         }
-        return Step::Pair(h);
     }
-    Step::Split(sets::without(g, c))
 }
 
-// The visit (c, r) and all below it, after so many visits. The open nodes below a split are fewer by the node chosen.
-pub fn search(
-    t: &[u64],
-    plan: &[u64],
-    groups: usize,
-    d: u64,
-    ground: u64,
-    half: u64,
-    c: u64,
-    r: u64,
-    allowance: u64,
-    spent: u64,
-) -> Verdict
-    requires { ⌜ Visiting (now t) (now plan) groups d ground half c r ⌝ }
-    ensures { λ o. ⌜ o ≡ within allowance spent (walk (treeOf (now (t .entry)) d c r)) ⌝ }
+// A visit and all below it, after so many visits. The open nodes below a split are fewer by the node chosen.
+pub fn search(t: &[u64], plan: &[u64], q: Question, a: Visit, spent: u64) -> Verdict
+    requires { ⌜ Visiting (now t) (now plan) q a ⌝ }
+    ensures { λ o. ⌜ o ≡ within (q .allowance) spent (walk (treeOf (now (t .entry)) (q .d) (a .c) (a .r))) ⌝ }
 {
-    if spent >= allowance {
-        return Verdict::Spent { visits: allowance };
+    if spent >= q.allowance {
+        return Verdict::Spent {
+            visits: q.allowance,
+        };
     }
     let visits = spent + 1;
-    let step = look(t, plan, groups, d, ground, half, c, r);
+    let step = look(t, plan, q, a);
     match step {
         Step::Leaf => Verdict::Yes { visits },
         Step::Pair(h) => Verdict::No {
-            first: c,
+            first: a.c,
             second: h,
             visits,
         },
-        Step::Split(m) => {
-            if m == 0 {
+        Step::Split(due) => {
+            let on = sets::without(a.g, a.c);
+            if on == 0 {
                 return Verdict::Unsplit;
             }
-            let v = sets::one(sets::first(m));
-            let rest = sets::without(m, v);
-            let first = search(t, plan, groups, d, ground, half, c, rest, allowance, visits);
+            let v = sets::first(on);
+            let without = branches::below(t, plan, q.d, a, v, due, false);
+            let first = search(t, plan, q, without, visits);
             let Verdict::Yes { visits: after } = first else {
                 return first;
             };
-            search(
-                t,
-                plan,
-                groups,
-                d,
-                ground,
-                half,
-                c | v,
-                rest,
-                allowance,
-                after,
-            )
+            let with = branches::below(t, plan, q.d, a, v, due, true);
+            search(t, plan, q, with, after)
         }
     }
+}
+
+// The search from no node chosen and the ground open, after so many visits.
+pub fn search_from(
+    t: &[u64],
+    plan: &[u64],
+    d: u64,
+    ground: u64,
+    allowance: u64,
+    spent: u64,
+) -> Verdict
+    requires { ⌜ (Planned (now t) (now plan)) × (ground ≡ groundOf (nodesOf (now t)) (satisfied (now t)) d) ⌝ }
+    ensures { λ o. ⌜ o ≡ within allowance spent (walk (verdictTree (nodesOf (now (t .entry))) (satisfied (now (t .entry))) d)) ⌝ }
+{
+    let half = sets::count(ground) / 2;
+    let q = Question {
+        d,
+        ground,
+        half,
+        allowance,
+    };
+    let root = branches::root(t, plan, d, ground);
+    search(t, plan, q, root, spent)
 }
 
 // The whole search on a sound table: from no node chosen and the ground open.
@@ -111,11 +117,10 @@ pub fn decide(t: &[u64], nodes: u64, out: u64, allowance: u64) -> Verdict
     requires { ⌜ (check (now t) ≡ sound) × (nodes ≡ nodesOf (now t)) ⌝ }
     ensures { λ o. ⌜ o ≡ within allowance 0 (walk (verdictTree (nodesOf (now (t .entry))) (satisfied (now (t .entry))) out)) ⌝ }
 {
-    let mut plan = [0u64; 128];
-    let groups = groups::group(t, &mut plan);
+    let mut plan = [0u64; 192];
+    plans::plan(t, nodes, &mut plan);
     let ground = sets::without(sets::all(nodes), out);
-    let half = sets::count(ground) / 2;
-    search(t, &plan, groups, out, ground, half, 0, ground, allowance, 0)
+    search_from(t, &plan, out, ground, allowance, 0)
 }
 
 // Do all quorums intersect, with `out` counted out? Yes, or two quorums of the rest with no node in common.

@@ -5,32 +5,24 @@ use mathlib.Core.Bool.{Bool, true, false, not}
 use mathlib.Core.Logic.{_⊎_, ⊎-elim}
 use Prim.Native.Nat.{ℕ, _^_, _≤_, _<_}
 use native.Mathlib.Omega.{arith}
-use borrow.Author.Tests.{eqb-false, eq-eqb, ne-eqb}
-use lib.Pow.{pow-mono}
-use Rattle.sets.specs.Sets.{has, nobody, everyone, only, _∪_, _∩_, _∖_, empty, within, size, lowest}
-use Rattle.sets.proofs.Bools.{either, clash, fails, not-holds, bool-ext, or-left, or-right, or-neither}
-use Rattle.sets.proofs.Members.{In, Sub, has-nobody, has-below, ∖-in, ∖-out, ∖-lt, only-in, only-out, none-in, sub-antisym}
+use lib.Pow.{pow-mono, pow-lt}
+use Rattle.sets.specs.Sets.{has, nobody, everyone, only, _∖_, empty, within, size, lowest}
+use Rattle.sets.proofs.Bools.{either, clash, fails, not-holds}
+use Rattle.sets.proofs.Members.{In, Sub, has-nobody, has-below, has-everyone, ∖-in, ∖-out, ∖-lt, only-in, only-out, none-in, sub-antisym, sub-within, within-sub}
 use Rattle.sets.proofs.Size.{size-lt}
 use Rattle.sets.proofs.Lowest.{lowest-in}
 use Rattle.meanings.specs.Quorums.{quorum, holdsQuorum, minimalQuorum, blockingSet, minimalBlocking, greatest}
-use Rattle.meanings.specs.Trees.{Tree, leaf, found, foundIf}
-use Rattle.theory.proofs.Quorum.{Quorum, quorum-is, a-node}
-use Rattle.theory.proofs.Greatest.{greatest-has, greatest-holds, holds-greatest}
-use Rattle.theory.proofs.QuorumTree as Q
+use Rattle.theory.proofs.Quorum.{Monotone, Quorum, quorum-is, a-node}
+use Rattle.theory.proofs.Greatest.{greatest-sub, greatest-has, greatest-quorum, greatest-holds}
 use Rattle.theory.proofs.Minimal as M
 use Rattle.theory.proofs.Blocking as B
+use Rattle.lasting.specs.Lasting.{holding}
+use Rattle.lasting.proofs.Below.{holding-holds}
 use Rattle.visits.specs.declared.Sought.{Sought}
 use Rattle.visits.specs.declared.Sought.the-variants.{Quorums, Blocking}
-use Rattle.visits.specs.Visits.{isOne, isMinimal, spared, treeAt, Splits}
+use Rattle.visits.specs.Visits.{isOne, isMinimal, spared, Left}
 
 module _ (n : ℕ) (s : ℕ → ℕ → Bool) where
-  -- u holds a quorum exactly when the greatest is not empty
-  pub holds-is : (u g : ℕ) → g ≡ greatest n s nobody u → not (empty g) ≡ holdsQuorum n s nobody u
-  holds-is u g e =
-      bool-ext (not (empty g)) (holdsQuorum n s nobody u)
-      (λ x. greatest-holds n s nobody u (λ z. eqb-false g 0 (not-holds (empty g) x) (e ∙ z)))
-      (λ x. ap not (ne-eqb g 0 (λ z. holds-greatest n s nobody u x (sym e ∙ z))))
-
   -- a quorum in u
   quorum-holds : (u q : ℕ) → Quorum n s nobody q → Sub q u → holdsQuorum n s nobody u ≡ true
   quorum-holds u q a f =
@@ -91,15 +83,10 @@ module _ (n : ℕ) (s : ℕ → ℕ → Bool) where
     one-spared Quorums v p e = fails (minimalQuorum n s c) (λ x. clash (holdsQuorum n s nobody (c ∖ only v)) e (minimal-quorum x v p))
     one-spared Blocking v p e = fails (minimalBlocking n s c) (λ x. clash (blockingSet n s (c ∖ only v)) e (minimal-blocking x v p))
 
--- ---- the test, node by node: those of c that are no longer left cannot be spared
-pub record Left (n : ℕ) (s : ℕ → ℕ → Bool) (k : Sought) (c left : ℕ) : Type 0 where
-  pub below : left < 2 ^ n
-  pub inside : Sub left c
-  pub kept : (v : ℕ) → In c v → has left v ≡ false → spared n s k c v ≡ false
-
+-- ---- the test, node by node
 module _ (n : ℕ) (s : ℕ → ℕ → Bool) (k : Sought) (c : ℕ) (few : n ≤ 64) where
   pub left-all : c < 2 ^ n → Left n s k c c
-  left-all h = record { below = h; inside = λ i p. p; kept = λ v p q. clash (has c v) p q }
+  left-all h = record { below = h; inside = sub-within n c c h (λ i p. p); kept = λ v p q. clash (has c v) p q }
 
   module _ (left : ℕ) (w : Left n s k c left) where
     left-lt : left < 2 ^ 64
@@ -115,8 +102,11 @@ module _ (n : ℕ) (s : ℕ → ℕ → Bool) (k : Sought) (c : ℕ) (few : n �
       pub next-lt : v < n
       next-lt = has-below n left v (w .below) next-in
 
+      pub next-chosen : In c v
+      next-chosen = within-sub left c (w .inside) v next-in
+
       pub next-spared : c < 2 ^ n → spared n s k c v ≡ true → isMinimal n s k c ≡ false
-      next-spared h = one-spared n s c h k v (w .inside v next-in)
+      next-spared h = one-spared n s c h k v next-chosen
 
       pub next-fewer : size 64 (left ∖ only v) < size 64 left
       next-fewer =
@@ -127,7 +117,7 @@ module _ (n : ℕ) (s : ℕ → ℕ → Bool) (k : Sought) (c : ℕ) (few : n �
       left-next f =
           record {
             below = ∖-lt n left (only v) (w .below);
-            inside = λ i p. w .inside i (∖-out left (only v) i p .0);
+            inside = sub-within n (left ∖ only v) c (∖-lt n left (only v) (w .below)) (λ i p. within-sub left c (w .inside) i (∖-out left (only v) i p .0));
             kept = λ i p q. ⊎-elim
                 (λ x. ⊎-elim
                 (λ y. subst (λ (j : ℕ). spared n s k c j ≡ false) (sym (only-out i v y)) f)
@@ -137,77 +127,57 @@ module _ (n : ℕ) (s : ℕ → ℕ → Bool) (k : Sought) (c : ℕ) (few : n �
                 (either (has left i));
           }
 
--- ---- what a visit of the tree of minimal quorums comes to, g being the greatest quorum in c and r together
-module _ (n : ℕ) (s : ℕ → ℕ → Bool) (c r g : ℕ) (hc : c < 2 ^ n) (hr : r < 2 ^ n) (eg : g ≡ greatest n s nobody (c ∪ r)) where
-  abbrev atMinimal : ℕ → Tree ℕ
-  atMinimal u = foundIf (minimalQuorum n s u) u
+-- ---- whether a node can be spared, as the greatest quorum of what is left tells it
+module _ (n : ℕ) (s : ℕ → ℕ → Bool) (mono : Monotone s) where
+  -- those that are done are in every quorum inside c
+  pub spares-quorum : (c v left x : ℕ) → c < 2 ^ n → Left n s Quorums c left → x ≡ holding (c ∖ left) (greatest n s nobody (c ∖ only v))
+      → not (empty x) ≡ holdsQuorum n s nobody (c ∖ only v)
+  spares-quorum c v left x c-lt w e =
+      holding-holds n s nobody (c ∖ left) (c ∖ only v) x e (λ z.
+      let q = greatest-quorum n s mono nobody (c ∖ only v) z in
+      let in-c : Sub (greatest n s nobody (c ∖ only v)) c = λ i p. ∖-out c (only v) i (greatest-sub n s nobody (c ∖ only v) i p) .0 in
+      sub-within n (c ∖ left) (greatest n s nobody (c ∖ only v)) (∖-lt n c left c-lt) (λ i p.
+      let o = ∖-out c left i p in
+      ⊎-elim (λ y. y) (λ y. clash (holdsQuorum n s nobody (c ∖ only i)) (quorum-holds n s (c ∖ only i) (greatest n s nobody (c ∖ only v)) q (misses n s c c-lt (greatest n s nobody (c ∖ only v)) i in-c y)) (w .kept i (o .0) (o .1)))
+      (either (has (greatest n s nobody (c ∖ only v)) i))))
 
-  dried : Q.dry n s nobody c r ≡ true → treeAt n s Quorums c r ≡ leaf
-  dried e = Q.tree-dry n s nobody (λ u. false) atMinimal n c r refl e
+  -- a quorum outside what is left of c without v has v, since c blocks
+  pub spares-blocking : (c v x : ℕ) → c < 2 ^ n → v < n → blockingSet n s c ≡ true → x ≡ holding (only v) (greatest n s nobody (everyone n ∖ (c ∖ only v)))
+      → empty x ≡ blockingSet n s (c ∖ only v)
+  unfolding blockingSet
+  spares-blocking c v x c-lt v-lt b e =
+      sym (not-not (empty x))
+      ∙ ap not (holding-holds n s nobody (only v) (everyone n ∖ (c ∖ only v)) x e (λ z.
+      let g = greatest n s nobody (everyone n ∖ (c ∖ only v)) in
+      let q = greatest-quorum n s mono nobody (everyone n ∖ (c ∖ only v)) z in
+      ⊎-elim
+      (λ y. sub-within n (only v) g (pow-lt v-lt) (λ i p. subst (In g) (sym (only-out i v p)) y))
+      (λ y. clash (holdsQuorum n s nobody (everyone n ∖ c)) (quorum-holds n s (everyone n ∖ c) g q (λ i p.
+      let o = ∖-out (everyone n) (c ∖ only v) i (greatest-sub n s nobody (everyone n ∖ (c ∖ only v)) i p) in
+      ∖-in (everyone n) c i (o .0) (fails (has c i) (λ k. ⊎-elim
+      (λ m. clash (has g v) (subst (In g) (only-out i v m) p) y)
+      (λ m. clash (has (c ∖ only v) i) (∖-in c (only v) i k m) (o .1))
+      (either (has (only v) i))))))
+      (not-holds (holdsQuorum n s nobody (everyone n ∖ c)) b))
+      (either (has g v))))
+    where
+      not-not : (b : Bool) → not (not b) ≡ b
+      not-not true = refl
+      not-not false = refl
 
-  pub none-in-reach : g ≡ nobody → treeAt n s Quorums c r ≡ leaf
-  none-in-reach z =
-      dried (or-left (empty (Q.reach n s nobody c r)) (not (within c (Q.reach n s nobody c r))) (eq-eqb (Q.reach n s nobody c r) 0 (sym eg ∙ z)))
+-- those that are done stay without a node that is not
+pub done-stay : (n c left v : ℕ) → c < 2 ^ n → In left v → within (c ∖ left) (c ∖ only v) ≡ true
+done-stay n c left v h p =
+    sub-within n (c ∖ left) (c ∖ only v) (∖-lt n c left h) (λ i q.
+    let o = ∖-out c left i q in
+    ∖-in c (only v) i (o .0) (fails (has (only v) i) (λ x. clash (has left i) (subst (In left) (sym (only-out i v x)) p) (o .1))))
 
-  pub chosen-out : ¬ (c ∩ g ≡ c) → treeAt n s Quorums c r ≡ leaf
-  unfolding within
-  chosen-out z =
-      dried (or-right (empty (Q.reach n s nobody c r)) (not (within c (Q.reach n s nobody c r)))
-      (ap not (ne-eqb (c ∩ Q.reach n s nobody c r) c (λ x. z (ap (λ (y : ℕ). c ∩ y) eg ∙ x)))))
+pub left-in : (n : ℕ) (s : ℕ → ℕ → Bool) (k : Sought) (c left : ℕ) → Left n s k c left → Sub left c
+left-in n s k c left w = within-sub left c (w .inside)
 
-  module _ (some : ¬ (g ≡ nobody)) (hold : c ∩ g ≡ c) where
-    not-dry : Q.dry n s nobody c r ≡ false
-    unfolding within
-    not-dry =
-        or-neither (empty (Q.reach n s nobody c r)) (not (within c (Q.reach n s nobody c r))) (ne-eqb (Q.reach n s nobody c r) 0 (λ x. some (eg ∙ x)))
-        (ap not (eq-eqb (c ∩ Q.reach n s nobody c r) c (ap (λ (y : ℕ). c ∩ y) (sym eg) ∙ hold)))
-
-    pub at-quorum : quorum n s nobody c ≡ true → treeAt n s Quorums c r ≡ foundIf (minimalQuorum n s c) c
-    at-quorum e = Q.tree-quorum n s nobody (λ u. false) atMinimal n c r refl not-dry e
-
-    pub quorum-split : quorum n s nobody c ≡ false → (on : ℕ) → on ≡ g ∖ c → Splits n s Quorums c r on on
-    quorum-split e on k =
-        subst (λ (x : ℕ). Splits n s Quorums c r x x) (sym (k ∙ ap (λ (x : ℕ). x ∖ c) eg))
-        (record {
-          on-in = Q.choices-lt n s nobody c r;
-          among-in = Q.choices-lt n s nobody c r;
-          none = Q.tree-unsplit n s nobody (λ u. false) atMinimal n c r refl not-dry e;
-          parts = Q.tree-parts n s nobody (λ u. false) atMinimal c r hc hr refl not-dry e;
-          fewer = λ z. Q.fewer n s nobody c r z hr;
-        })
-
--- ---- what a visit of the tree of blocking sets comes to, g being the greatest quorum outside c
-module _ (n : ℕ) (s : ℕ → ℕ → Bool) (c r : ℕ) (hr : r < 2 ^ n) where
-  pub quorum-outside : holdsQuorum n s nobody (everyone n ∖ (c ∪ r)) ≡ true → treeAt n s Blocking c r ≡ leaf
-  quorum-outside e = B.tree-shut n s n c r e
-
-  module _ (g : ℕ) (eg : g ≡ greatest n s nobody (everyone n ∖ c)) where
-    pub none-blocks : g ≡ nobody → blockingSet n s c ≡ true
-    unfolding blockingSet
-    none-blocks z = ap not (fails (holdsQuorum n s nobody (everyone n ∖ c)) (λ x. holds-greatest n s nobody (everyone n ∖ c) x (sym eg ∙ z)))
-
-    some-blocks : ¬ (g ≡ nobody) → blockingSet n s c ≡ false
-    unfolding blockingSet
-    some-blocks z = ap not (greatest-holds n s nobody (everyone n ∖ c) (λ x. z (eg ∙ x)))
-
-    module _ (e : holdsQuorum n s nobody (everyone n ∖ (c ∪ r)) ≡ false) where
-      pub at-blocking : g ≡ nobody → treeAt n s Blocking c r ≡ foundIf (minimalBlocking n s c) c
-      at-blocking z = B.tree-blocks n s n c r e (none-blocks z)
-
-      pub blocking-split : ¬ (g ≡ nobody) → Splits n s Blocking c r (r ∩ g) r
-      blocking-split z =
-          subst (λ (x : ℕ). Splits n s Blocking c r (r ∩ x) r) (sym eg)
-          (record {
-            on-in = B.choices-lt n s c r hr;
-            among-in = hr;
-            none = B.tree-unsplit n s n c r e (some-blocks z);
-            parts = B.tree-parts n s c r hr e (some-blocks z);
-            fewer = B.fewer n s c r hr;
-          })
-
--- a leaf that lists its set, or does not
-pub lists : (t : Tree ℕ) (b : Bool) (c : ℕ) → t ≡ foundIf b c → b ≡ true → t ≡ found c
-lists t b c e k = e ∙ ap (λ (x : Bool). foundIf x c) k
-
-pub lists-not : (t : Tree ℕ) (b : Bool) (c : ℕ) → t ≡ foundIf b c → b ≡ false → t ≡ leaf
-lists-not t b c e k = e ∙ ap (λ (x : Bool). foundIf x c) k
+-- a node is outside what is left without it
+pub one-outside : (n c v : ℕ) → v < n → (one : ℕ) → one ≡ only v → (u : ℕ) → u ≡ everyone n ∖ (c ∖ only v) → within one u ≡ true
+one-outside n c v l one eo u eu =
+    subst (λ (x : ℕ). within x u ≡ true) (sym eo) (sub-within n (only v) u (pow-lt l) (λ i p.
+    subst (λ (x : ℕ). In x i) (sym eu) (∖-in (everyone n) (c ∖ only v) i (subst (In (everyone n)) (sym (only-out i v p)) (has-everyone n v l))
+    (fails (has (c ∖ only v) i) (λ x. clash (has (only v) i) p (∖-out c (only v) i x .1))))))

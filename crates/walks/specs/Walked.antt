@@ -10,7 +10,9 @@ use Rattle.meanings.specs.Trees.{Tree, Listing, listed, broken, list}
 use Rattle.meanings.specs.Questions.{listPuts}
 use Rattle.answers.specs.declared.Listed.{Listed}
 use Rattle.answers.specs.declared.Listed.the-variants.{Sets, Spent, Unsplit}
-use Rattle.visits.specs.Visits.{Visited}
+use Rattle.visits.specs.declared.Sought.{Sought}
+use Rattle.branches.specs.declared.Visit.{Visit}
+use Rattle.visits.specs.Visits.{Stands}
 
 -- Each visit counts one; the allowance ends first where the visits up to the end are more than it.
 abbrev pub answered : ℕ → ℕ → ℕ → Listing ℕ → Listed
@@ -23,6 +25,6 @@ pub record Walked (tree : Tree ℕ) (allowance spent found : ℕ) (before after 
   pub wrote : (count visits : ℕ) → o ≡ Sets count visits → after ≡ sets before found (listPuts (list tree))
 
 -- what a walk asks of its caller: each set found has cost a visit, so their count never overflows
-pub record Walking (t plan : List ℕ) (groups all c r spent found : ℕ) : Type 0 where
-  pub visited : Visited t plan groups all c r
+pub record Walking (t plan : List ℕ) (all : ℕ) (sought : Sought) (a : Visit) (spent found : ℕ) : Type 0 where
+  pub stands : Stands t plan all sought a
   pub fewer-found : found ≤ spent

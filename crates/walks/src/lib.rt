@@ -6,6 +6,7 @@ ghost use Rattle.meanings.specs.Table.{nodes, satisfied};
 ghost use Rattle.visits.specs.Visits.{treeAt};
 ghost use Rattle.walks.specs.Walked.{Walking, Walked};
 use answers::Listed;
+use branches::Visit;
 use visits::Sought;
 use visits::Step;
 
@@ -18,10 +19,9 @@ fn put(out: &mut [u64], at: u64, x: u64)
     }
 }
 
-// What stays the same throughout a search: the sets sought, the groups of the plan, all nodes, and the allowance.
+// What stays the same throughout a search: the sets sought, all nodes, and the allowance.
 pub struct Search {
     pub sought: Sought,
-    pub groups: usize,
     pub all: u64,
     pub allowance: u64,
 }
@@ -31,14 +31,13 @@ pub fn walk(
     t: &[u64],
     plan: &[u64],
     s: Search,
-    c: u64,
-    r: u64,
+    a: Visit,
     spent: u64,
     found: u64,
     out: &mut [u64],
 ) -> Listed
-    requires { ⌜ Walking (now t) (now plan) (s .groups) (s .all) c r spent found ⌝ }
-    ensures { λ o. ⌜ Walked (treeAt (nodes (now (t .entry))) (satisfied (now (t .entry))) (s .sought) c r) (s .allowance) spent found (now (out .entry)) (now (out .exit)) o ⌝ }
+    requires { ⌜ Walking (now t) (now plan) (s .all) (s .sought) a spent found ⌝ }
+    ensures { λ o. ⌜ Walked (treeAt (nodes (now (t .entry))) (satisfied (now (t .entry))) (s .sought) (a .c) (a .r)) (s .allowance) spent found (now (out .entry)) (now (out .exit)) o ⌝ }
 {
     if s.allowance <= spent {
         return Listed::Spent {
@@ -47,30 +46,28 @@ pub fn walk(
     }
     let next = spent + 1;
     let sought = s.sought;
-    let met = visits::look(t, plan, s.groups, sought, s.all, c, r);
+    let met = visits::look(t, plan, sought, s.all, a);
     match met {
         Step::Leaf => Listed::Sets {
             count: found,
             visits: next,
         },
         Step::Listed => {
-            put(out, found, c);
+            put(out, found, a.c);
             Listed::Sets {
                 count: found + 1,
                 visits: next,
             }
         }
-        Step::Split { on, among } => {
-            if on == 0 {
-                return Listed::Unsplit;
-            }
-            let v = sets::one(sets::first(on));
-            let rest = sets::without(among, v);
-            let first = walk(t, plan, s, c, rest, next, found, out);
+        Step::Stuck => Listed::Unsplit,
+        Step::Split { v, due } => {
+            let without = visits::below(t, plan, sought, s.all, a, v, due, false);
+            let first = walk(t, plan, s, without, next, found, out);
             let Listed::Sets { count, visits } = first else {
                 return first;
             };
-            walk(t, plan, s, c | v, rest, visits, count, out)
+            let with = visits::below(t, plan, sought, s.all, a, v, due, true);
+            walk(t, plan, s, with, visits, count, out)
         }
     }
 }

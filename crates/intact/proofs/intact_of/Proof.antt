@@ -1,4 +1,5 @@
--- The plan groups the nodes, and the ill set is one of nodes, which is all that the search asks.
+-- The plan is one of the table, and the ill set is one of nodes, which is all that the search asks.
+use native.Mathlib.Omega.{arith}
 use mathlib.Core.Path.{_≡_, sym, ap, _∙_, subst}
 use Prim.Native.Nat.{ℕ, _^_, _<_, _≤_}
 use Rattle.sets.specs.Sets.{everyone}
@@ -9,11 +10,11 @@ use borrow.Author.Needs.{needs}
 use Rattle.intact.proofs.intact_of.Statement.{statement}
 use Rattle.intact.proofs.intact_of.Tie as tie
 
-slice-aggregate-group : tie.Need-slice-aggregate-group
-slice-aggregate-group c = search needs
+slice-aggregate-plan : tie.Need-slice-aggregate-plan
+slice-aggregate-plan c = search needs
 
-group-requires : tie.Need-group-requires
-group-requires c κs = search needs
+plan-requires : tie.Need-plan-requires
+plan-requires c κs = let s = c .before .before in (s .pre .0, s .pre .1, omega arith)
 
 all-requires : tie.Need-all-requires
 all-requires c κs =
@@ -38,8 +39,8 @@ pub intact-of-spec : {M : Type 1} → statement M
 intact-of-spec =
     tie.close
     (tie.spec
-    slice-aggregate-group
-    group-requires
+    slice-aggregate-plan
+    plan-requires
     all-requires
     slice-aggregate-verdict-then-rounds
     verdict-then-rounds-requires

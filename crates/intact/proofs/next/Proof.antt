@@ -7,35 +7,33 @@ use Rattle.sets.proofs.Members.{∖-lt}
 use Rattle.meanings.specs.Table.{nodes, satisfied}
 use Rattle.meanings.specs.Quorums.{greatest}
 use Rattle.meanings.specs.Trees.{Pair}
-use Rattle.rounds.specs.Rounds.{Ground}
 use Rattle.intact.proofs.Rounds.{first-empty, second-empty, shared}
 use borrow.Author.Needs.{needs}
 use Rattle.intact.proofs.next.Statement.{statement}
 use Rattle.intact.proofs.next.Tie as tie
 
 -- what q has left without one of the two is a set of nodes
-part : (t plan : List ℕ) (groups q x o : ℕ) → Ground t plan groups q → o ≡ q ∖ x → Ground t plan groups o
-part t plan groups q x o g e =
-    record { grouped = g .grouped; inside = subst (λ (y : ℕ). y < 2 ^ nodes t) (sym e) (∖-lt (nodes t) q x (g .inside)) }
+part-lt : (n q x o : ℕ) → q < 2 ^ n → o ≡ q ∖ x → o < 2 ^ n
+part-lt n q x o h e = subst (λ (y : ℕ). y < 2 ^ n) (sym e) (∖-lt n q x h)
 
 without-requires : tie.Need-without-requires
 without-requires c κs = search needs
 
-survivors-requires : tie.Need-survivors-requires
-survivors-requires c κs =
+plain-requires : tie.Need-plain-requires
+plain-requires c κs =
     let s = c .before .before .before in
-    part (s .args .t .now) (s .args .plan .now) (s .args .groups) (s .args .q) (s .args .first) (c .without .result) (s .pre) (c .without .ensures)
+    (s .pre .0, part-lt (nodes (s .args .t .now)) (s .args .q) (s .args .first) (c .without .result) (s .pre .1) (c .without .ensures))
 
 without-requires-2 : tie.Need-without-requires-2
 without-requires-2 c κs = search needs
 
-survivors-requires-2 : tie.Need-survivors-requires-2
-survivors-requires-2 c κs =
+plain-requires-2 : tie.Need-plain-requires-2
+plain-requires-2 c κs =
     let s = c .before .before .before .before .before in
-    part (s .args .t .now) (s .args .plan .now) (s .args .groups) (s .args .q) (s .args .second) (c .without2 .result) (s .pre) (c .without2 .ensures)
+    (s .pre .0, part-lt (nodes (s .args .t .now)) (s .args .q) (s .args .second) (c .without2 .result) (s .pre .1) (c .without2 .ensures))
 
 -- W1 and W2, with what the definition takes of them
-module _ (c : tie.After-survivors2) where
+module _ (c : tie.After-plain2) where
   abbrev s : tie.Start
   s = c .before .before .before .before .before .before
 
@@ -43,16 +41,16 @@ module _ (c : tie.After-survivors2) where
   T = s .args .t .now
 
   abbrev w1 : ℕ
-  w1 = c .before .before .survivors .result .set
+  w1 = c .before .before .plain .result
 
   abbrev w2 : ℕ
-  w2 = c .survivors2 .result .set
+  w2 = c .plain2 .result
 
   first-is : w1 ≡ greatest (nodes T) (satisfied T) nobody (s .args .q ∖ s .args .first)
-  first-is = c .before .before .survivors .ensures .0 ∙ ap (greatest (nodes T) (satisfied T) nobody) (c .before .before .before .without .ensures)
+  first-is = c .before .before .plain .ensures ∙ ap (greatest (nodes T) (satisfied T) nobody) (c .before .before .before .without .ensures)
 
   second-is : w2 ≡ greatest (nodes T) (satisfied T) nobody (s .args .q ∖ s .args .second)
-  second-is = c .survivors2 .ensures .0 ∙ ap (greatest (nodes T) (satisfied T) nobody) (c .before .without2 .ensures)
+  second-is = c .plain2 .ensures ∙ ap (greatest (nodes T) (satisfied T) nobody) (c .before .without2 .ensures)
 
   abbrev pair : Pair
   pair = record { first = s .args .first; second = s .args .second }
@@ -77,9 +75,9 @@ next-spec =
     tie.close
     (tie.spec
     without-requires
-    survivors-requires
+    plain-requires
     without-requires-2
-    survivors-requires-2
+    plain-requires-2
     returns
     returns-2
     returns-3)

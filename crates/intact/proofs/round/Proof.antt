@@ -16,13 +16,13 @@ use Rattle.intact.proofs.round.Tie as tie
 quorum-lt : (t : List ℕ) (u q : ℕ) → q ≡ greatest (nodes t) (satisfied t) nobody u → q < 2 ^ nodes t
 quorum-lt t u q e = subst (λ (y : ℕ). y < 2 ^ nodes t) (sym e) (greatest-lt (nodes t) (satisfied t) nobody u)
 
-survivors-requires : tie.Need-survivors-requires
-survivors-requires c κs = search needs
+plain-requires : tie.Need-plain-requires
+plain-requires c κs = let s = c .before .before in (s .pre .planned, s .pre .inside)
 
 verdict-of-requires : tie.Need-verdict-of-requires
 verdict-of-requires c κs =
     let s = c .before .before .before in
-    record { grouped = s .pre .grouped; all-is = s .pre .all-is; inside = quorum-lt (s .args .t .now) (s .args .left) (c .survivors .result .set) (c .survivors .ensures .0) }
+    record { planned = s .pre .planned; all-is = s .pre .all-is; inside = quorum-lt (s .args .t .now) (s .args .left) (c .plain .result) (c .plain .ensures) }
 
 enum-known-found : tie.Need-enum-known-found
 enum-known-found c = search needs
@@ -36,14 +36,14 @@ returns c =
     let Q = A .before in
     let s = Q .before .before .before in
     c .settled .ensures
-    ∙ stops (s .args .t .now) (s .args .left) (s .args .allowance) (s .args .spent) (Q .survivors .result .set) (Q .survivors .ensures .0) (A .verdict-of .result) (A .verdict-of .ensures)
+    ∙ stops (s .args .t .now) (s .args .left) (s .args .allowance) (s .args .spent) (Q .plain .result) (Q .plain .ensures) (A .verdict-of .result) (A .verdict-of .ensures)
     (not-no (A .verdict-of .result) (c .before .match .keys2))
 
 next-requires : tie.Need-next-requires
 next-requires c κs =
     let Q = c .before .before .before .before in
     let s = Q .before .before .before in
-    record { grouped = s .pre .grouped; inside = quorum-lt (s .args .t .now) (s .args .left) (Q .survivors .result .set) (Q .survivors .ensures .0) }
+    (s .pre .planned, quorum-lt (s .args .t .now) (s .args .left) (Q .plain .result) (Q .plain .ensures))
 
 returns-2 : tie.Need-returns-2
 returns-2 c =
@@ -51,14 +51,14 @@ returns-2 c =
     let Q = A .before in
     let s = Q .before .before .before in
     let g = c .before .before .found .given in
-    goes-on (s .args .t .now) (s .args .left) (s .args .allowance) (s .args .spent) (Q .survivors .result .set) (Q .survivors .ensures .0) (A .verdict-of .result) (A .verdict-of .ensures)
+    goes-on (s .args .t .now) (s .args .left) (s .args .allowance) (s .args .spent) (Q .plain .result) (Q .plain .ensures) (A .verdict-of .result) (A .verdict-of .ensures)
     (g .0 .0) (g .0 .1 .0) (g .0 .1 .1 .0) (c .next .result) (g .1) (c .next .ensures)
 
 pub round-spec : {M : Type 1} → statement M
 round-spec =
     tie.close
     (tie.spec
-    survivors-requires
+    plain-requires
     verdict-of-requires
     enum-known-found
     settled-requires

@@ -9,11 +9,11 @@ use Rattle.intact.proofs.rounds_from.Statement.{statement}
 use Rattle.intact.proofs.rounds_from.Tie as tie
 
 abbrev Inv-loop : tie.InvT-loop
-Inv-loop t plan groups all u allowance spent left₀ visits₀ left visits =
+Inv-loop t plan all u allowance spent left₀ visits₀ left visits =
     (left < 2 ^ nodes t) × (within allowance visits (roundsOf t left) ≡ within allowance spent (roundsOf t u))
 
 abbrev μ-loop : tie.MeasureT-loop
-μ-loop t plan groups all u allowance spent left₀ visits₀ left visits = size (nodes t) left
+μ-loop t plan all u allowance spent left₀ visits₀ left visits = size (nodes t) left
 
 loop-holds : tie.Need-loop-holds Inv-loop μ-loop
 loop-holds c = (c .before .before .pre .inside, refl)
@@ -21,7 +21,7 @@ loop-holds c = (c .before .before .pre .inside, refl)
 round-requires : tie.Need-round-requires Inv-loop μ-loop
 round-requires c κs =
     let s = c .before .before .before in
-    record { grouped = s .pre .grouped; all-is = s .pre .all-is; inside = c .loop .inv .0 }
+    record { planned = s .pre .planned; all-is = s .pre .all-is; inside = c .loop .inv .0 }
 
 enum-known-turn : tie.Need-enum-known-turn Inv-loop μ-loop
 enum-known-turn c = search needs

@@ -13,7 +13,7 @@ verdict-of-requires : tie.Need-verdict-of-requires
 verdict-of-requires c κs =
     let s = c .before .before in
     let n = nodes (s .args .t .now) in
-    record { grouped = s .pre .grouped; all-is = s .pre .all-is; inside = subst (λ (x : ℕ). x < 2 ^ n) (sym (s .pre .all-is)) (everyone-lt n) }
+    record { planned = s .pre .planned; all-is = s .pre .all-is; inside = subst (λ (x : ℕ). x < 2 ^ n) (sym (s .pre .all-is)) (everyone-lt n) }
 
 enum-known-plain : tie.Need-enum-known-plain
 enum-known-plain c = search needs
@@ -38,7 +38,7 @@ rounds-from-requires c κs =
     let s = A .before .before .before in
     let n = nodes (s .args .t .now) in
     let h : s .args .all < 2 ^ n = subst (λ (x : ℕ). x < 2 ^ n) (sym (s .pre .all-is)) (everyone-lt n) in
-    record { grouped = s .pre .grouped; all-is = s .pre .all-is; inside = subst (λ (x : ℕ). x < 2 ^ n) (sym (c .without .ensures)) (∖-lt n (s .args .all) (s .args .ill) h) }
+    record { planned = s .pre .planned; all-is = s .pre .all-is; inside = subst (λ (x : ℕ). x < 2 ^ n) (sym (c .without .ensures)) (∖-lt n (s .args .all) (s .args .ill) h) }
 
 returns-2 : tie.Need-returns-2
 returns-2 c =

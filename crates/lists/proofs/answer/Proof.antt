@@ -1,4 +1,4 @@
--- A fault is handed on; of a sound table the nodes are grouped, and the whole tree is walked.
+-- A fault is handed on; of a sound table a plan is found, and the whole tree is walked.
 use native.Mathlib.Omega.{arith}
 use mathlib.Core.Path.{_≡_, sym, ap, _∙_, subst}
 use Prim.Native.Nat.{ℕ}
@@ -28,8 +28,8 @@ enum-told c = search needs
 fault-of-requires : tie.Need-fault-of-requires
 fault-of-requires c κs = search needs
 
-slice-aggregate-group : tie.Need-slice-aggregate-group
-slice-aggregate-group c = search needs
+slice-aggregate-plan : tie.Need-slice-aggregate-plan
+slice-aggregate-plan c = search needs
 
 -- what the check has found
 passed : (c : tie.After-known-told) →
@@ -40,8 +40,8 @@ passed c =
     let g = c .before .checked .given in
     sound-known (k .before .before .before .args .table .now) (k .check-table .result) (k .check-table .ensures) (g .0 .0) (g .0 .1 .0) (g .1)
 
-group-requires : tie.Need-group-requires
-group-requires c κs = (passed (c .before) .0, omega arith)
+plan-requires : tie.Need-plan-requires
+plan-requires c κs = let p = passed (c .before) in (p .0, p .1, omega arith)
 
 all-requires : tie.Need-all-requires
 all-requires c κs =
@@ -56,7 +56,7 @@ slice-aggregate-fill c = search needs
 fill-requires : tie.Need-fill-requires
 fill-requires c κs =
     let p = passed (c .before .before .before .before .before .before) in
-    record { grouped = c .before .before .before .before .group .ensures .0; whole = c .before .before .all .ensures ∙ ap (λ (n : ℕ). everyone n) (p .1) }
+    record { planned = c .before .before .before .before .plan2 .ensures .0; whole = c .before .before .all .ensures ∙ ap (λ (n : ℕ). everyone n) (p .1) }
 
 returns : tie.Need-returns
 returns c =
@@ -88,8 +88,8 @@ answer-spec =
     enum-told
     fault-of-requires
     returns
-    slice-aggregate-group
-    group-requires
+    slice-aggregate-plan
+    plan-requires
     all-requires
     slice-aggregate-fill
     fill-requires

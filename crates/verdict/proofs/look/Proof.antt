@@ -1,113 +1,117 @@
 -- Each way out is a step of the tree: what was tested so far, and the law for that step.
 use Prim.Native.Nat.{ℕ, _/_, _^_, _<_}
 use mathlib.Core.Path.{_≡_, sym, ap, _∙_, subst}
+use mathlib.Core.Bool.{true, false}
 use Rattle.sets.specs.Sets.{_∖_, size}
-use Rattle.sets.proofs.Members.{∪-lt, ∖-lt}
+use Rattle.sets.proofs.Members.{Sub, ∖-lt, ∖-out}
 use Rattle.meanings.specs.Table.{nodes, satisfied}
-use Rattle.meanings.specs.Quorums.{greatest}
+use Rattle.meanings.specs.Quorums.{quorum, greatest, ground as groundIs}
+use Rattle.meanings.specs.Trees.{overHalf}
 use Rattle.theory.proofs.Quorum.{ground-lt}
 use Rattle.tables.proofs.Sound.{sound-table}
-use Rattle.verdict.proofs.Looks.{over-half, over, not-over, no-reach, lacks, alone, apart, splits}
+use Rattle.lasting.proofs.Laws.{holding-nobody}
+use Rattle.branches.specs.Branches.{dry, MetIs}
+use Rattle.verdict.proofs.Looks.{over-half, over, not-over, dry-leaf, alone, apart}
+use Rattle.verdict.proofs.Root.{ground-due}
 use borrow.Author.Needs.{needs}
 use Rattle.verdict.proofs.look.Statement.{statement}
 use Rattle.verdict.proofs.look.Tie as tie
-use Rattle.verdict.proofs.look.Reads as reads
-use Rattle.verdict.proofs.look.Lts as lts
-use Rattle.rounds.proofs.quorum.Reads as quorum-reads
-use Rattle.rounds.proofs.survivors.Reads as survivors-reads
-use Rattle.sets.proofs.count.Reads as count-reads
-use Rattle.sets.proofs.without.Reads as without-reads
 
 count-requires : tie.Need-count-requires
 count-requires c κs = search needs
 
+half-is : (s : tie.Start) → s .args .q .half ≡ size (nodes (s .args .t .now)) (groundIs (nodes (s .args .t .now)) (satisfied (s .args .t .now)) (s .args .q .d)) / 2
+half-is s = s .pre .half-is ∙ ap (λ (x : ℕ). size (nodes (s .args .t .now)) x / 2) (s .pre .ground-is)
+
 returns : tie.Need-returns
 returns c =
-    let K = c .before in
+    let K = c .before .before in
     let s = K .before .before .before in
     let T = s .args .t .now in
-    let n64 = sound-table T (s .pre .grouped .checked) .nodes-le in
-    let half = s .pre .half-is ∙ ap (λ (x : ℕ). size (nodes T) x / 2) (s .pre .ground-is) in
-    over-half T (s .args .d) (s .args .c) (s .args .r) (over T (s .args .d) (s .args .c) (s .args .r) (K .count .result) (K .count .ensures .0) (s .pre .chosen) n64 (s .args .half) half (c .if1 .taken))
+    over-half T (s .args .q .d) (s .args .a .c) (s .args .a .r)
+    (over T (s .args .q .d) (s .args .a .c) (s .args .a .r) (K .count .result) (K .count .ensures .0) (s .pre .stands .waiting .below) (sound-table T (s .pre .stands .planned .checked) .nodes-le) (s .args .q .half) (half-is s) (c .if1 .taken))
 
-survivors-requires : tie.Need-survivors-requires
-survivors-requires c κs =
-    let s = c .before .before .before .before in
-    record { grouped = s .pre .grouped; inside = ∪-lt (nodes (s .args .t .now)) (s .args .c) (s .args .r) (s .pre .chosen) (s .pre .open-nodes) }
-
-returns-2 : tie.Need-returns-2
-returns-2 c =
-    let K = c .before .before .before in
+few : (c : tie.Else1) → let s = c .before .before .before .before .before in overHalf (nodes (s .args .t .now)) (satisfied (s .args .t .now)) (s .args .q .d) (s .args .a .c) ≡ false
+few c =
+    let K = c .before .before in
     let s = K .before .before .before in
     let T = s .args .t .now in
-    let n64 = sound-table T (s .pre .grouped .checked) .nodes-le in
-    let half = s .pre .half-is ∙ ap (λ (x : ℕ). size (nodes T) x / 2) (s .pre .ground-is) in
-    let few = not-over T (s .args .d) (s .args .c) (s .args .r) (K .count .result) (K .count .ensures .0) (s .pre .chosen) n64 (s .args .half) half (c .before .before .if1 .left) in
-    no-reach T (s .args .d) (s .args .c) (s .args .r) few (c .before .survivors .result .set) (c .before .survivors .ensures .0) (c .if2 .taken)
+    not-over T (s .args .q .d) (s .args .a .c) (s .args .a .r) (K .count .result) (K .count .ensures .0) (s .pre .stands .waiting .below) (sound-table T (s .pre .stands .planned .checked) .nodes-le) (s .args .q .half) (half-is s) (c .if1 .left)
 
-returns-3 : tie.Need-returns-3
-returns-3 c =
-    let K = c .before .before .before .before in
-    let s = K .before .before .before in
-    let T = s .args .t .now in
-    let n64 = sound-table T (s .pre .grouped .checked) .nodes-le in
-    let half = s .pre .half-is ∙ ap (λ (x : ℕ). size (nodes T) x / 2) (s .pre .ground-is) in
-    let few = not-over T (s .args .d) (s .args .c) (s .args .r) (K .count .result) (K .count .ensures .0) (s .pre .chosen) n64 (s .args .half) half (c .before .before .before .if1 .left) in
-    lacks T (s .args .d) (s .args .c) (s .args .r) few (c .before .before .survivors .result .set) (c .before .before .survivors .ensures .0) (c .if3 .taken)
+meet-requires : tie.Need-meet-requires
+meet-requires c κs = c .before .before .before .before .before .pre .stands
 
-quorum-requires : tie.Need-quorum-requires
-quorum-requires c κs = search needs
+enum-told : tie.Need-enum-told
+enum-told c = search needs
+
+enum-known-met : tie.Need-enum-known-met
+enum-known-met c = search needs
+
+enum-told-2 : tie.Need-enum-told-2
+enum-told-2 c = search needs
 
 without-requires : tie.Need-without-requires
 without-requires c κs = search needs
 
-survivors-requires-2 : tie.Need-survivors-requires-2
-survivors-requires-2 c κs =
+lasting-requires : tie.Need-lasting-requires
+lasting-requires c κs =
+    let s = c .before .before .before .before .before .before .before .before .before in
+    let n = nodes (s .args .t .now) in (
+      s .pre .stands .planned,
+      ground-due (s .args .t .now) (s .args .q .d) (s .args .q .ground) (c .without .result) (s .pre .ground-is)
+          (subst (λ (x : ℕ). x < 2 ^ n) (sym (c .without .ensures))
+          (∖-lt n (s .args .q .ground) (s .args .a .c) (subst (λ (x : ℕ). x < 2 ^ n) (sym (s .pre .ground-is)) (ground-lt n (satisfied (s .args .t .now)) (s .args .q .d)))))
+          (subst (λ (x : ℕ). Sub x (s .args .q .ground)) (sym (c .without .ensures)) (λ i p. ∖-out (s .args .q .ground) (s .args .a .c) i p .0)),
+    )
+
+-- c is a quorum
+quorate : (c : tie.After-enum-told2) →
+    let s = c .before .before .before .before .before .before .before .before in
+    (dry (s .args .t .now) (s .args .q .d) (s .args .a .c) (s .args .a .r) ≡ false) × (quorum (nodes (s .args .t .now)) (satisfied (s .args .t .now)) (s .args .q .d) (s .args .a .c) ≡ true)
+quorate c =
+    let M = c .before .before in
+    let s = M .before .before .before .before .before .before in
+    subst (MetIs (s .args .t .now) (s .args .q .d) (s .args .a)) (c .enum-told2 .given .1) (M .meet .ensures)
+
+-- what lies outside it
+outside : (c : tie.After-lasting) →
     let s = c .before .before .before .before .before .before .before .before .before .before in
-    let n = nodes (s .args .t .now) in
-    record {
-      grouped = s .pre .grouped;
-      inside = subst (λ (x : ℕ). x < 2 ^ n) (sym (c .without .ensures))
-          (∖-lt n (s .args .ground) (s .args .c) (subst (λ (x : ℕ). x < 2 ^ n) (sym (s .pre .ground-is)) (ground-lt n (satisfied (s .args .t .now)) (s .args .d))));
-    }
+    c .lasting .result ≡ greatest (nodes (s .args .t .now)) (satisfied (s .args .t .now)) (s .args .q .d) (groundIs (nodes (s .args .t .now)) (satisfied (s .args .t .now)) (s .args .q .d) ∖ s .args .a .c)
+outside c =
+    let s = c .before .before .before .before .before .before .before .before .before .before in
+    let T = s .args .t .now in
+    c .lasting .ensures ∙ sym (holding-nobody (greatest (nodes T) (satisfied T) (s .args .q .d) (c .before .without .result)))
+    ∙ ap (greatest (nodes T) (satisfied T) (s .args .q .d)) (c .before .without .ensures ∙ ap (λ (x : ℕ). x ∖ s .args .a .c) (s .pre .ground-is))
+
+returns-2 : tie.Need-returns-2
+returns-2 c =
+    let H = c .before in
+    let E = H .before .before in
+    let M = E .before .before in
+    let s = M .before .before .before .before .before .before in
+    alone (s .args .t .now) (s .args .q .d) (s .args .a .c) (s .args .a .r) (few (M .before)) (quorate E .0) (quorate E .1) (H .lasting .result) (outside H) (c .if2 .taken)
+
+returns-3 : tie.Need-returns-3
+returns-3 c =
+    let M = c .before .before in
+    let s = M .before .before .before .before .before .before in
+    dry-leaf (s .args .t .now) (s .args .q .d) (s .args .a .c) (s .args .a .r) (few (M .before))
+    (subst (MetIs (s .args .t .now) (s .args .q .d) (s .args .a)) (c .enum-told .given .1) (M .meet .ensures))
 
 returns-4 : tie.Need-returns-4
 returns-4 c =
-    let K = c .before .before .before .before .before .before .before .before .before in
-    let s = K .before .before .before in
-    let T = s .args .t .now in
-    let n64 = sound-table T (s .pre .grouped .checked) .nodes-le in
-    let half = s .pre .half-is ∙ ap (λ (x : ℕ). size (nodes T) x / 2) (s .pre .ground-is) in
-    let few = not-over T (s .args .d) (s .args .c) (s .args .r) (K .count .result) (K .count .ensures .0) (s .pre .chosen) n64 (s .args .half) half (c .before .before .before .before .before .before .before .before .if1 .left) in
-    let h = c .before .survivors2 .ensures .0 ∙ ap (greatest (nodes T) (satisfied T) (s .args .d)) (c .before .before .without .ensures ∙ ap (λ (x : ℕ). x ∖ s .args .c) (s .pre .ground-is)) in
-    alone T (s .args .d) (s .args .c) (s .args .r) few (c .before .before .before .before .before .before .before .survivors .result .set) (c .before .before .before .before .before .before .before .survivors .ensures .0) (c .before .before .before .before .before .before .if2 .left) (c .before .before .before .before .before .if3 .left)
-    (sym (c .before .before .before .before .quorum .ensures) ∙ c .before .before .before .if4 .taken) (c .before .survivors2 .result .set) h (c .if5 .taken)
+    let W = c .before in
+    let M = W .before .before in
+    let s = M .before .before .before .before .before .before in
+    record { few = few (M .before); waiter = subst (MetIs (s .args .t .now) (s .args .q .d) (s .args .a)) (W .met .given .1) (M .meet .ensures) }
 
 returns-5 : tie.Need-returns-5
 returns-5 c =
-    let K = c .before .before .before .before .before .before .before .before .before in
-    let s = K .before .before .before in
-    let T = s .args .t .now in
-    let n64 = sound-table T (s .pre .grouped .checked) .nodes-le in
-    let half = s .pre .half-is ∙ ap (λ (x : ℕ). size (nodes T) x / 2) (s .pre .ground-is) in
-    let few = not-over T (s .args .d) (s .args .c) (s .args .r) (K .count .result) (K .count .ensures .0) (s .pre .chosen) n64 (s .args .half) half (c .before .before .before .before .before .before .before .before .if1 .left) in
-    let h = c .before .survivors2 .ensures .0 ∙ ap (greatest (nodes T) (satisfied T) (s .args .d)) (c .before .before .without .ensures ∙ ap (λ (x : ℕ). x ∖ s .args .c) (s .pre .ground-is)) in
-    apart T (s .args .d) (s .args .c) (s .args .r) few (c .before .before .before .before .before .before .before .survivors .result .set) (c .before .before .before .before .before .before .before .survivors .ensures .0) (c .before .before .before .before .before .before .if2 .left) (c .before .before .before .before .before .if3 .left)
-    (sym (c .before .before .before .before .quorum .ensures) ∙ c .before .before .before .if4 .taken) (c .before .survivors2 .result .set) h (c .if5 .left)
-
-without-requires-2 : tie.Need-without-requires-2
-without-requires-2 c κs = search needs
-
-returns-6 : tie.Need-returns-6
-returns-6 c =
-    let K = c .before .before .before .before .before .before .before in
-    let s = K .before .before .before in
-    let T = s .args .t .now in
-    let n64 = sound-table T (s .pre .grouped .checked) .nodes-le in
-    let half = s .pre .half-is ∙ ap (λ (x : ℕ). size (nodes T) x / 2) (s .pre .ground-is) in
-    let few = not-over T (s .args .d) (s .args .c) (s .args .r) (K .count .result) (K .count .ensures .0) (s .pre .chosen) n64 (s .args .half) half (c .before .before .before .before .before .before .if1 .left) in
-    splits T (s .args .d) (s .args .c) (s .args .r) few (c .before .before .before .before .before .survivors .result .set) (c .before .before .before .before .before .survivors .ensures .0) (c .before .before .before .before .if2 .left) (c .before .before .before .if3 .left)
-    (sym (c .before .before .quorum .ensures) ∙ c .before .if4 .left) (c .without2 .result) (c .without2 .ensures)
+    let H = c .before in
+    let E = H .before .before in
+    let M = E .before .before in
+    let s = M .before .before .before .before .before .before in
+    apart (s .args .t .now) (s .args .q .d) (s .args .a .c) (s .args .a .r) (few (M .before)) (quorate E .0) (quorate E .1) (H .lasting .result) (outside H) (c .if2 .left)
 
 pub look-spec : {M : Type 1} → statement M
 look-spec =
@@ -115,13 +119,13 @@ look-spec =
     (tie.spec
     count-requires
     returns
-    survivors-requires
+    meet-requires
+    enum-told
+    enum-known-met
+    enum-told-2
+    without-requires
+    lasting-requires
     returns-2
     returns-3
-    quorum-requires
-    without-requires
-    survivors-requires-2
     returns-4
-    returns-5
-    without-requires-2
-    returns-6)
+    returns-5)

@@ -1,8 +1,7 @@
 -- Each kind by its own tree.
 use mathlib.Core.Path.{_≡_, sym, subst}
-use Rattle.meanings.specs.Table.{nodes, satisfied}
 use Rattle.visits.specs.declared.Sought.{Sought}
-use Rattle.visits.specs.Visits.{Comes}
+use Rattle.visits.specs.Visits.{Stands, Comes}
 use borrow.Author.Needs.{needs}
 use Rattle.visits.proofs.look.Statement.{statement}
 use Rattle.visits.proofs.look.Tie as tie
@@ -11,23 +10,27 @@ enum-told : tie.Need-enum-told
 enum-told c = search needs
 
 look-quorums-requires : tie.Need-look-quorums-requires
-look-quorums-requires c κs = search needs
+look-quorums-requires c κs =
+    let s = c .before .before .before .before in
+    subst (λ (k : Sought). Stands (s .args .t .now) (s .args .plan .now) (s .args .all) k (s .args .a)) (c .enum-told .given .1) (s .pre)
 
 enum-told-2 : tie.Need-enum-told-2
 enum-told-2 c = search needs
 
 look-blocking-requires : tie.Need-look-blocking-requires
-look-blocking-requires c κs = search needs
+look-blocking-requires c κs =
+    let s = c .before .before .before .before in
+    subst (λ (k : Sought). Stands (s .args .t .now) (s .args .plan .now) (s .args .all) k (s .args .a)) (c .enum-told2 .given .1) (s .pre)
 
 returns : tie.Need-returns
 returns c =
     let s = c .before .before .before .before .before in
-    subst (λ (k : Sought). Comes (nodes (s .args .t .now)) (satisfied (s .args .t .now)) k (s .args .c) (s .args .r) (c .look-quorums .result)) (sym (c .before .enum-told .given .1)) (c .look-quorums .ensures)
+    subst (λ (k : Sought). Comes (s .args .t .now) k (s .args .a) (c .look-quorums .result)) (sym (c .before .enum-told .given .1)) (c .look-quorums .ensures)
 
 returns-2 : tie.Need-returns-2
 returns-2 c =
     let s = c .before .before .before .before .before in
-    subst (λ (k : Sought). Comes (nodes (s .args .t .now)) (satisfied (s .args .t .now)) k (s .args .c) (s .args .r) (c .look-blocking .result)) (sym (c .before .enum-told2 .given .1)) (c .look-blocking .ensures)
+    subst (λ (k : Sought). Comes (s .args .t .now) k (s .args .a) (c .look-blocking .result)) (sym (c .before .enum-told2 .given .1)) (c .look-blocking .ensures)
 
 pub look-spec : {M : Type 1} → statement M
 look-spec =

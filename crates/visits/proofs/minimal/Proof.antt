@@ -5,25 +5,26 @@ use Prim.Native.Nat.{ℕ, _<_, _≤_}
 use Rattle.sets.specs.Sets.{only, _∖_, size}
 use Rattle.meanings.specs.Table.{nodes, satisfied}
 use Rattle.tables.proofs.Sound.{sound-table}
-use Rattle.visits.proofs.Laws.{Left, left-all, left-none, next-lt, next-spared, next-fewer, left-next}
+use Rattle.visits.specs.Visits.{Left}
+use Rattle.visits.proofs.Laws.{left-all, left-none, next-in, next-lt, next-spared, next-fewer, left-next}
 use borrow.Author.Needs.{needs}
 use Rattle.visits.proofs.minimal.Statement.{statement}
 use Rattle.visits.proofs.minimal.Tie as tie
 
 abbrev Inv-loop : tie.InvT-loop
-Inv-loop t plan groups sought all c left₀ left = Left (nodes t) (satisfied t) sought c left
+Inv-loop t plan sought all c left₀ left = Left (nodes t) (satisfied t) sought c left
 
 abbrev μ-loop : tie.MeasureT-loop
-μ-loop t plan groups sought all c left₀ left = size 64 left
+μ-loop t plan sought all c left₀ left = size 64 left
 
 -- the table has at most 64 nodes
 few : (c : tie.Start Inv-loop μ-loop) → nodes (c .args .t .now) ≤ 64
-few c = sound-table (c .args .t .now) (c .pre .0 .grouped .checked) .nodes-le
+few c = sound-table (c .args .t .now) (c .pre .ground .planned .checked) .nodes-le
 
 loop-holds : tie.Need-loop-holds Inv-loop μ-loop
 loop-holds c =
     let s = c .before .before in
-    left-all (nodes (s .args .t .now)) (satisfied (s .args .t .now)) (s .args .sought) (s .args .c) (few s) (s .pre .0 .chosen-in)
+    left-all (nodes (s .args .t .now)) (satisfied (s .args .t .now)) (s .args .sought) (s .args .c) (few s) (s .pre .below)
 
 first-requires : tie.Need-first-requires Inv-loop μ-loop
 first-requires c κs = search needs
@@ -32,8 +33,9 @@ can-spare-requires : tie.Need-can-spare-requires Inv-loop μ-loop
 can-spare-requires c κs =
     let L = c .before .before in
     let s = L .before .before .before in (
-      s .pre .0,
-      next-lt (nodes (s .args .t .now)) (satisfied (s .args .t .now)) (s .args .sought) (s .args .c) (few s) (L .loop .left) (L .loop .inv)
+      s .pre,
+      L .loop .inv,
+      next-in (nodes (s .args .t .now)) (satisfied (s .args .t .now)) (s .args .sought) (s .args .c) (few s) (L .loop .left) (L .loop .inv)
           (c .first .result) (c .before .loop-test .taken) (c .first .ensures .0),
     )
 
@@ -43,7 +45,7 @@ returns c =
     let L = F .before .before in
     let s = L .before .before .before in
     sym (next-spared (nodes (s .args .t .now)) (satisfied (s .args .t .now)) (s .args .sought) (s .args .c) (few s) (L .loop .left) (L .loop .inv)
-    (F .first .result) (F .before .loop-test .taken) (F .first .ensures .0) (s .pre .0 .chosen-in) (sym (c .before .can-spare .ensures) ∙ c .if1 .taken))
+    (F .first .result) (F .before .loop-test .taken) (F .first .ensures .0) (s .pre .below) (sym (c .before .can-spare .ensures) ∙ c .if1 .taken))
 
 one-requires : tie.Need-one-requires Inv-loop μ-loop
 one-requires c κs =
@@ -86,7 +88,7 @@ returns-2 : tie.Need-returns-2 Inv-loop μ-loop
 returns-2 c =
     let L = c .before in
     let s = L .before .before .before in
-    sym (left-none (nodes (s .args .t .now)) (satisfied (s .args .t .now)) (s .args .sought) (s .args .c) (few s) (L .loop .left) (L .loop .inv) (s .pre .0 .chosen-in) (s .pre .1) (c .loop-test .left))
+    sym (left-none (nodes (s .args .t .now)) (satisfied (s .args .t .now)) (s .args .sought) (s .args .c) (few s) (L .loop .left) (L .loop .inv) (s .pre .below) (s .pre .is-one) (c .loop-test .left))
 
 pub minimal-spec : {M : Type 1} → statement M
 minimal-spec =

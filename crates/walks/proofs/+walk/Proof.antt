@@ -1,13 +1,12 @@
 -- The visit, then the walk of the first part, then, where that is answered, the walk of the second, which goes on where it stopped.
 use native.Mathlib.Omega.{arith}
-use mathlib.Core.Path.{sym, ap, _∙_, subst}
+use mathlib.Core.Path.{_≡_, sym, ap, ap₂, _∙_, subst}
 use Rattle.sets.specs.Sets.{only, _∪_, size}
 use Rattle.meanings.specs.Table.{nodes, satisfied}
-use Rattle.meanings.specs.Trees.{Tree}
-use Rattle.tables.proofs.Sound.{sound-table}
+use Rattle.meanings.specs.Trees.{Tree, fork}
 use Rattle.visits.specs.declared.Step.{Step}
-use Rattle.visits.specs.Visits.{treeAt, Comes, Splits}
-use Rattle.walks.proofs.Laws.{walk-spent, walk-leaf, walk-found, walk-unsplit, walk-first, walk-second, still-fewer, low-lt, Below, below, refused}
+use Rattle.visits.specs.Visits.{treeAt, openBelow, Comes, Splits}
+use Rattle.walks.proofs.Laws.{walk-spent, walk-leaf, walk-found, walk-unsplit, walk-first, walk-second, still-fewer, refused}
 use borrow.Author.Needs.{needs}
 use Prim.Native.Nat.{ℕ, _<_, _≤_, _+_}
 use borrow.Fn.Kinds.{In}
@@ -16,16 +15,14 @@ use Rattle.walks.proofs.walk.Reads as walk
 use Rattle.walks.proofs.walk.Kinds as walk-kinds
 use Rattle.walks.proofs.+walk.Lts-walk as walk-lts
 use Rattle.walks.proofs.put.Reads as put-reads
-use Rattle.sets.proofs.first.Reads as first-reads
-use Rattle.sets.proofs.one.Reads as one-reads
-use Rattle.sets.proofs.without.Reads as without-reads
 use Rattle.visits.proofs.look.Reads as look-reads
+use Rattle.visits.proofs.below.Reads as below-reads
 use Rattle.walks.proofs.+walk.{statement}
 use Rattle.walks.proofs.+walk.Tie.{close}
 
 -- the open nodes fall
 abbrev μ-walk : Measures 3 walk-kinds.ps ℕ
-μ-walk κs a = size 64 (a .1 .1 .1 .1 .0)
+μ-walk κs a = size 64 (a .1 .1 .1 .0 .r)
 
 abbrev walk-at : ℕ → In 3 walk-kinds.ps
 walk-at t = and 3 walk-kinds.ps (is 3 walk-kinds.ps μ-walk t) walk.Pre
@@ -39,55 +36,45 @@ claims t = (
   look-reads.Learnt,
   put-reads.Asked,
   put-reads.Learnt,
-  first-reads.Asked,
-  first-reads.Learnt,
-  one-reads.Asked,
-  one-reads.Learnt,
-  without-reads.Asked,
-  without-reads.Learnt,
+  below-reads.Asked,
+  below-reads.Learnt,
   walk-below t,
   walk.Post,
 )
 
--- the table has at most 64 nodes
-small : (t : ℕ) (c : walk-lts.Start (claims t) (walk-at t) walk.Post) → nodes (c .args .t .now) ≤ 64
-small t c = sound-table (c .args .t .now) (c .pre .1 .visited .known .grouped .checked) .nodes-le
-
 abbrev tree-at : (t : ℕ) → walk-lts.Start (claims t) (walk-at t) walk.Post → Tree ℕ
-tree-at t s = treeAt (nodes (s .args .t .now)) (satisfied (s .args .t .now)) (s .args .s .sought) (s .args .c) (s .args .r)
+tree-at t s = treeAt (nodes (s .args .t .now)) (satisfied (s .args .t .now)) (s .args .s .sought) (s .args .a .c) (s .args .a .r)
 
 -- what looking has found
 abbrev comes : (t : ℕ) → walk-lts.After-look (claims t) (walk-at t) walk.Post → Step → Type 0
-comes t g =
-    let s = g .before .before .before .before .before .before in
-    Comes (nodes (s .args .t .now)) (satisfied (s .args .t .now)) (s .args .s .sought) (s .args .c) (s .args .r)
+comes t g = let s = g .before .before .before .before .before .before in Comes (s .args .t .now) (s .args .s .sought) (s .args .a)
 
 splits : (t : ℕ) (c : walk-lts.After-met (claims t) (walk-at t) walk.Post) →
     let s = c .before .before .before .before .before .before .before .before in
-    Splits (nodes (s .args .t .now)) (satisfied (s .args .t .now)) (s .args .s .sought) (s .args .c) (s .args .r) (c .met .given .0 .0) (c .met .given .0 .1 .0)
+    Splits (s .args .t .now) (s .args .s .sought) (s .args .a) (c .met .given .0 .0) (c .met .given .0 .1 .0)
 splits t c = subst (comes t (c .before .before)) (c .met .given .1) (c .before .before .look .ensures)
 
 -- the two visits below a split
-abbrev below-without : (t : ℕ) → walk-lts.After-without (claims t) (walk-at t) walk.Post → Tree ℕ
-below-without t w =
-    let s = w .before .before .before .before .before .before .before .before .before .before .before .before .before in
-    treeAt (nodes (s .args .t .now)) (satisfied (s .args .t .now)) (s .args .s .sought) (s .args .c) (w .without .result)
+abbrev below-without : (t : ℕ) → walk-lts.After-below (claims t) (walk-at t) walk.Post → Tree ℕ
+below-without t l =
+    let s = l .before .before .before .before .before .before .before .before .before .before in
+    treeAt (nodes (s .args .t .now)) (satisfied (s .args .t .now)) (s .args .s .sought) (l .below .result .c) (l .below .result .r)
 
-abbrev below-with : (t : ℕ) → walk-lts.After-without (claims t) (walk-at t) walk.Post → Tree ℕ
-below-with t w =
-    let s = w .before .before .before .before .before .before .before .before .before .before .before .before .before in
-    treeAt (nodes (s .args .t .now)) (satisfied (s .args .t .now)) (s .args .s .sought) (s .args .c ∪ w .before .one .result) (w .without .result)
-
-parted : (t : ℕ) (w : walk-lts.After-without (claims t) (walk-at t) walk.Post) →
-    let s = w .before .before .before .before .before .before .before .before .before .before .before .before .before in
-    Below (nodes (s .args .t .now)) (satisfied (s .args .t .now)) (s .args .s .sought) (s .args .c) (s .args .r) (w .before .one .result) (w .without .result)
-parted t w =
-    let f = w .before .before in
-    let m = f .before .before .before in
+abbrev below-with : (t : ℕ) → walk-lts.After-met (claims t) (walk-at t) walk.Post → Tree ℕ
+below-with t m =
     let s = m .before .before .before .before .before .before .before .before in
-    below (nodes (s .args .t .now)) (satisfied (s .args .t .now)) (s .args .s .sought) (s .args .c) (s .args .r) (m .met .given .0 .0) (m .met .given .0 .1 .0) (small t s) (splits t m) (f .before .if2 .left)
-    (s .pre .1 .visited .known .chosen-in) (s .pre .1 .visited .open-in) (w .before .one .result) (w .without .result)
-    (w .before .one .ensures ∙ ap (λ (x : ℕ). only x) (f .first .ensures .0)) (w .without .ensures)
+    treeAt (nodes (s .args .t .now)) (satisfied (s .args .t .now)) (s .args .s .sought) (s .args .a .c ∪ only (m .met .given .0 .0))
+    (openBelow (s .args .s .sought) (s .args .a) (m .met .given .0 .0))
+
+parted : (t : ℕ) (l : walk-lts.After-below (claims t) (walk-at t) walk.Post) →
+    let m = l .before .before in
+    let s = m .before .before .before .before .before .before .before .before in
+    tree-at t s ≡ fork (below-without t l) (below-with t m)
+parted t l =
+    let m = l .before .before in
+    let s = m .before .before .before .before .before .before .before .before in
+    splits t m .parts
+    ∙ ap₂ (λ (x y : ℕ). fork (treeAt (nodes (s .args .t .now)) (satisfied (s .args .t .now)) (s .args .s .sought) x y) (below-with t m)) (sym (l .below .ensures .chosen-are)) (sym (l .below .ensures .open-are))
 
 walk-returns : (t : ℕ) → walk-lts.Need-returns (claims t) (walk-at t) walk.Post
 walk-returns t c =
@@ -98,7 +85,7 @@ walk-add-next : (t : ℕ) → walk-lts.Need-add-next (claims t) (walk-at t) walk
 walk-add-next t c = omega arith
 
 walk-look-requires : (t : ℕ) → walk-lts.Need-look-requires (claims t) (walk-at t) walk.Post
-walk-look-requires t c κs = c .before .before .before .before .before .pre .1 .visited
+walk-look-requires t c κs = c .before .before .before .before .before .pre .1 .stands
 
 walk-enum-told : (t : ℕ) → walk-lts.Need-enum-told (claims t) (walk-at t) walk.Post
 walk-enum-told t c = search needs
@@ -109,78 +96,78 @@ walk-enum-told-2 t c = search needs
 walk-put-requires : (t : ℕ) → walk-lts.Need-put-requires (claims t) (walk-at t) walk.Post
 walk-put-requires t c κs = search needs
 
-walk-add-t24 : (t : ℕ) → walk-lts.Need-add-t24 (claims t) (walk-at t) walk.Post
-walk-add-t24 t c =
+walk-add-t23 : (t : ℕ) → walk-lts.Need-add-t23 (claims t) (walk-at t) walk.Post
+walk-add-t23 t c =
     let e = c .before .before .before .before .before .before .before in
     let s = e .before .before .before .before .before in
     let f = s .pre .1 .fewer-found in
     let h = e .if1 .left in
     omega arith
 
+walk-enum-told-3 : (t : ℕ) → walk-lts.Need-enum-told-3 (claims t) (walk-at t) walk.Post
+walk-enum-told-3 t c = search needs
+
 walk-enum-known-met : (t : ℕ) → walk-lts.Need-enum-known-met (claims t) (walk-at t) walk.Post
 walk-enum-known-met t c = search needs
 
-walk-returns-2 : (t : ℕ) → walk-lts.Need-returns-2 (claims t) (walk-at t) walk.Post
-walk-returns-2 t c =
-    let m = c .before .before in
-    let e = m .before .before .before in
-    let s = e .before .before .before .before .before in
-    walk-unsplit (tree-at t s) (s .args .s .allowance) (s .args .spent) (s .args .found) (s .args .out .now) (e .if1 .left) (splits t m .none (c .if2 .taken))
-
-walk-first-requires : (t : ℕ) → walk-lts.Need-first-requires (claims t) (walk-at t) walk.Post
-walk-first-requires t c κs = search needs
-
-walk-one-requires : (t : ℕ) → walk-lts.Need-one-requires (claims t) (walk-at t) walk.Post
-walk-one-requires t c κs =
-    let m = c .before .before .before in
+walk-below-requires : (t : ℕ) → walk-lts.Need-below-requires (claims t) (walk-at t) walk.Post
+walk-below-requires t c κs =
+    let m = c .before in
     let s = m .before .before .before .before .before .before .before .before in
-    subst (λ (x : ℕ). x < 64) (sym (c .first .ensures .0))
-    (low-lt (nodes (s .args .t .now)) (satisfied (s .args .t .now)) (s .args .s .sought) (s .args .c) (s .args .r) (m .met .given .0 .0) (m .met .given .0 .1 .0) (small t s) (splits t m) (c .before .if2 .left))
-
-walk-without-requires : (t : ℕ) → walk-lts.Need-without-requires (claims t) (walk-at t) walk.Post
-walk-without-requires t c κs = search needs
+    (s .pre .1 .stands, splits t m .ready)
 
 walk-walk-requires : (t : ℕ) → walk-lts.Need-walk-requires (claims t) (walk-at t) walk.Post
 walk-walk-requires t c κs =
-    let w = c .before in
-    let s = w .before .before .before .before .before .before .before .before .before .before .before .before .before in
-    let b = parted t w in
-    let f = s .pre .1 .fewer-found in (
-      subst (λ (x : ℕ). size 64 (w .without .result) < x) (s .pre .0) (b .fewer),
-      record { visited = record { known = s .pre .1 .visited .known; open-in = b .rest-in }; fewer-found = omega arith },
-    )
+    let l = c .before in
+    let m = l .before .before in
+    let s = m .before .before .before .before .before .before .before .before in
+    let f = s .pre .1 .fewer-found in
+    let o = ap (size 64) (l .below .ensures .open-are) in
+    let w = splits t m .fewer in
+    (omega (arith, s .pre .0), record { stands = l .below .ensures .stands; fewer-found = omega arith })
 
 walk-enum-known-first : (t : ℕ) → walk-lts.Need-enum-known-first (claims t) (walk-at t) walk.Post
 walk-enum-known-first t c = search needs
 
 walk-same-length : (t : ℕ) → walk-lts.Need-same-length (claims t) (walk-at t) walk.Post
-walk-same-length t c = c .before .before .before .walk .kept .1 .1 .1 .1 .1 .1 .1 .0
+walk-same-length t c = c .before .before .before .walk .kept .1 .1 .1 .1 .1 .1 .0
 
-walk-returns-3 : (t : ℕ) → walk-lts.Need-returns-3 (claims t) (walk-at t) walk.Post
-walk-returns-3 t c =
+walk-returns-2 : (t : ℕ) → walk-lts.Need-returns-2 (claims t) (walk-at t) walk.Post
+walk-returns-2 t c =
     let g = c .before .before .before in
-    let w = g .before .before in
-    let s = w .before .before .before .before .before .before .before .before .before .before .before .before .before in
-    walk-first (tree-at t s) (s .args .s .allowance) (s .args .spent) (s .args .found) (s .args .out .now) (below-without t w) (below-with t w) (parted t w .parts)
-    (g .walk .last .1 .1 .1 .1 .1 .1 .1 .0) (g .walk .result) (g .walk .ensures) (refused (g .walk .result) (c .match2 .keys2))
+    let l = g .before .before in
+    let m = l .before .before in
+    let s = m .before .before .before .before .before .before .before .before in
+    walk-first (tree-at t s) (s .args .s .allowance) (s .args .spent) (s .args .found) (s .args .out .now) (below-without t l) (below-with t m) (parted t l)
+    (g .walk .last .1 .1 .1 .1 .1 .1 .0) (g .walk .result) (g .walk .ensures) (refused (g .walk .result) (c .match2 .keys2))
+
+walk-below-requires-2 : (t : ℕ) → walk-lts.Need-below-requires-2 (claims t) (walk-at t) walk.Post
+walk-below-requires-2 t c κs =
+    let g = c .before .before .before .before .before in
+    let m = g .before .before .before .before in
+    let s = m .before .before .before .before .before .before .before .before in
+    (s .pre .1 .stands, splits t m .ready)
 
 walk-walk-requires-2 : (t : ℕ) → walk-lts.Need-walk-requires-2 (claims t) (walk-at t) walk.Post
 walk-walk-requires-2 t c κs =
-    let k = c .before .before in
+    let n = c .before in
+    let k = n .before .before in
     let g = k .before .before .before .before in
-    let w = g .before .before in
-    let s = w .before .before .before .before .before .before .before .before .before .before .before .before .before in
-    let b = parted t w in (
-      subst (λ (x : ℕ). size 64 (w .without .result) < x) (s .pre .0) (b .fewer),
+    let l = g .before .before in
+    let m = l .before .before in
+    let s = m .before .before .before .before .before .before .before .before in
+    let o = ap (size 64) (n .below2 .ensures .open-are) in
+    let w = splits t m .fewer in (
+      omega (arith, s .pre .0),
       record {
-        visited = record { known = record { grouped = s .pre .1 .visited .known .grouped; whole = s .pre .1 .visited .known .whole; chosen-in = b .chosen-in }; open-in = b .rest-in };
-        fewer-found = still-fewer (tree-at t s) (s .args .s .allowance) (s .args .spent) (s .args .found) (s .args .out .now) (below-without t w) (below-with t w) (b .parts)
-            (g .walk .last .1 .1 .1 .1 .1 .1 .1 .0) (g .walk .result) (k .first2 .given .0 .0) (k .first2 .given .0 .1 .0) (g .walk .ensures) (k .first2 .given .1) (s .pre .1 .fewer-found);
+        stands = n .below2 .ensures .stands;
+        fewer-found = still-fewer (tree-at t s) (s .args .s .allowance) (s .args .spent) (s .args .found) (s .args .out .now) (below-without t l) (below-with t m) (parted t l)
+            (g .walk .last .1 .1 .1 .1 .1 .1 .0) (g .walk .result) (k .first .given .0 .0) (k .first .given .0 .1 .0) (g .walk .ensures) (k .first .given .1) (s .pre .1 .fewer-found);
       },
     )
 
-walk-returns-4 : (t : ℕ) → walk-lts.Need-returns-4 (claims t) (walk-at t) walk.Post
-walk-returns-4 t c =
+walk-returns-3 : (t : ℕ) → walk-lts.Need-returns-3 (claims t) (walk-at t) walk.Post
+walk-returns-3 t c =
     let g = c .before .before in
     let s = g .before .before .before .before .before .before in
     walk-leaf (tree-at t s) (s .args .s .allowance) (s .args .spent) (s .args .found) (s .args .out .now) (g .before .if1 .left) (subst (comes t g) (c .enum-told .given .1) (g .look .ensures))
@@ -188,27 +175,37 @@ walk-returns-4 t c =
 walk-same-length-2 : (t : ℕ) → walk-lts.Need-same-length-2 (claims t) (walk-at t) walk.Post
 walk-same-length-2 t c = c .before .before .put .kept .0
 
-walk-returns-5 : (t : ℕ) → walk-lts.Need-returns-5 (claims t) (walk-at t) walk.Post
-walk-returns-5 t c =
+walk-returns-4 : (t : ℕ) → walk-lts.Need-returns-4 (claims t) (walk-at t) walk.Post
+walk-returns-4 t c =
     let q = c .before .before in
     let m = q .before .before in
     let g = m .before .before in
     let s = g .before .before .before .before .before .before in
-    walk-found (tree-at t s) (s .args .s .allowance) (s .args .spent) (s .args .found) (s .args .out .now) (g .before .if1 .left) (s .args .c) (q .put .last .0) (subst (comes t g) (m .enum-told2 .given .1) (g .look .ensures)) (q .put .ensures)
+    walk-found (tree-at t s) (s .args .s .allowance) (s .args .spent) (s .args .found) (s .args .out .now) (g .before .if1 .left) (s .args .a .c) (q .put .last .0) (subst (comes t g) (m .enum-told2 .given .1) (g .look .ensures)) (q .put .ensures)
+
+walk-returns-5 : (t : ℕ) → walk-lts.Need-returns-5 (claims t) (walk-at t) walk.Post
+walk-returns-5 t c =
+    let g = c .before .before in
+    let s = g .before .before .before .before .before .before in
+    walk-unsplit (tree-at t s) (s .args .s .allowance) (s .args .spent) (s .args .found) (s .args .out .now) (g .before .if1 .left) (subst (comes t g) (c .enum-told3 .given .1) (g .look .ensures))
 
 walk-same-length-3 : (t : ℕ) → walk-lts.Need-same-length-3 (claims t) (walk-at t) walk.Post
-walk-same-length-3 t c = c .before .before .walk2 .kept .1 .1 .1 .1 .1 .1 .1 .0 ∙ c .before .before .before .before .before .before .before .before .before .walk .kept .1 .1 .1 .1 .1 .1 .1 .0
+walk-same-length-3 t c = c .before .before .walk2 .kept .1 .1 .1 .1 .1 .1 .0 ∙ c .before .before .before .before .before .before .before .before .before .before .walk .kept .1 .1 .1 .1 .1 .1 .0
 
 walk-returns-6 : (t : ℕ) → walk-lts.Need-returns-6 (claims t) (walk-at t) walk.Post
 walk-returns-6 t c =
     let h = c .before .before in
-    let k = h .before .before .before in
+    let n = h .before .before in
+    let k = n .before .before in
     let g = k .before .before .before .before in
-    let w = g .before .before in
-    let s = w .before .before .before .before .before .before .before .before .before .before .before .before .before in
-    walk-second (tree-at t s) (s .args .s .allowance) (s .args .spent) (s .args .found) (s .args .out .now) (below-without t w) (below-with t w) (parted t w .parts)
-    (g .walk .last .1 .1 .1 .1 .1 .1 .1 .0) (g .walk .result) (k .first2 .given .0 .0) (k .first2 .given .0 .1 .0) (g .walk .ensures) (k .first2 .given .1)
-    (h .walk2 .last .1 .1 .1 .1 .1 .1 .1 .0) (h .walk2 .result) (h .walk2 .ensures)
+    let l = g .before .before in
+    let m = l .before .before in
+    let s = m .before .before .before .before .before .before .before .before in
+    walk-second (tree-at t s) (s .args .s .allowance) (s .args .spent) (s .args .found) (s .args .out .now) (below-without t l)
+    (treeAt (nodes (s .args .t .now)) (satisfied (s .args .t .now)) (s .args .s .sought) (n .below2 .result .c) (n .below2 .result .r))
+    (parted t l ∙ ap₂ (λ (x y : ℕ). fork (below-without t l) (treeAt (nodes (s .args .t .now)) (satisfied (s .args .t .now)) (s .args .s .sought) x y)) (sym (n .below2 .ensures .chosen-are)) (sym (n .below2 .ensures .open-are)))
+    (g .walk .last .1 .1 .1 .1 .1 .1 .0) (g .walk .result) (k .first .given .0 .0) (k .first .given .0 .1 .0) (g .walk .ensures) (k .first .given .1)
+    (h .walk2 .last .1 .1 .1 .1 .1 .1 .0) (h .walk2 .result) (h .walk2 .ensures)
 
 pub +walk-spec : {M : Type 1} → statement M
 +walk-spec =
@@ -224,19 +221,19 @@ pub +walk-spec : {M : Type 1} → statement M
     (walk-enum-told t)
     (walk-enum-told-2 t)
     (walk-put-requires t)
-    (walk-add-t24 t)
+    (walk-add-t23 t)
+    (walk-enum-told-3 t)
     (walk-enum-known-met t)
-    (walk-returns-2 t)
-    (walk-first-requires t)
-    (walk-one-requires t)
-    (walk-without-requires t)
+    (walk-below-requires t)
     (walk-walk-requires t)
     (walk-enum-known-first t)
     (walk-same-length t)
-    (walk-returns-3 t)
+    (walk-returns-2 t)
+    (walk-below-requires-2 t)
     (walk-walk-requires-2 t)
-    (walk-returns-4 t)
+    (walk-returns-3 t)
     (walk-same-length-2 t)
+    (walk-returns-4 t)
     (walk-returns-5 t)
     (walk-same-length-3 t)
     (walk-returns-6 t)
