@@ -2,11 +2,13 @@
 // level. The records of the table are sound.
 ghost use mathlib.Core.Path.{_≡_};
 ghost use Prim.Native.Nat.{ℕ, _-_, _<_, _≤_, _^_};
-ghost use lib.ListN.{length};
+ghost use mathlib.Core.Bool.{false};
+ghost use lib.Dec.{leb};
 ghost use Rattle.sets.specs.Sets.{size, _∩_};
-ghost use Rattle.meanings.specs.Table.{records, members as membersOf, satisfies as satisfiesAt};
+ghost use Rattle.meanings.specs.Table.{records, members as membersOf, threshold as thresholdOf, satisfies as satisfiesAt};
 ghost use Rattle.meanings.specs.Faults.{check, sound};
 ghost use Rattle.tables.specs.Run.{innerRun};
+ghost use Rattle.judge.specs.Flat.{Flat};
 
 // How many members of record r are in u.
 fn met(t: &[u64], u: u64, r: usize) -> u64
@@ -16,29 +18,52 @@ fn met(t: &[u64], u: u64, r: usize) -> u64
     sets::count(tables::members(t, r) & u)
 }
 
-// How many of the inner sets of a set at level `above`, from record `from` on, u satisfies.
-fn inner_met(t: &[u64], u: u64, from: usize, above: u64, left: usize) -> u64
-    requires { ⌜ (check (now t) ≡ sound) × (from ≤ records (now t)) × (above < 2 ^ 56) ⌝ }
-    ensures { λ o. ⌜ (o ≡ innerRun (λ j. satisfiesAt left (now (t .entry)) u j) (now (t .entry)) above (records (now (t .entry)) - from) from) × (o ≤ records (now (t .entry))) ⌝ }
+// Whether the members of record r in u are enough, without its inner sets.
+pub fn enough(t: &[u64], u: u64, r: usize) -> bool
+    requires { ⌜ (check (now t) ≡ sound) × (r < records (now t)) ⌝ }
+    ensures { λ o. ⌜ o ≡ leb (thresholdOf (now (t .entry)) r) (size 64 (membersOf (now (t .entry)) r ∩ u)) ⌝ }
+{
+    tables::threshold(t, r) <= met(t, u, r)
+}
+
+// Whether record r has inner sets: without them none is ever counted.
+fn deeper(t: &[u64], r: usize) -> bool
+    requires { ⌜ (check (now t) ≡ sound) × (r < records (now t)) ⌝ }
+    ensures { λ o. ⌜ (o ≡ false → Flat (now (t .entry)) r) ⌝ }
+{
+    if r + 1 == t.len() / 2 {
+        return false;
+    }
+    tables::level(t, r) < tables::level(t, r + 1)
+}
+
+// Whether u satisfies at least `wanted` of the inner sets of a set at level `above`, from record `from` on.
+fn inner_enough(t: &[u64], u: u64, from: usize, above: u64, left: usize, wanted: u64) -> bool
+    requires { ⌜ (check (now t) ≡ sound) × (from ≤ records (now t)) × (above < 2 ^ 56) × (0 < wanted) ⌝ }
+    ensures { λ o. ⌜ o ≡ leb wanted (innerRun (λ j. satisfiesAt left (now (t .entry)) u j) (now (t .entry)) above (records (now (t .entry)) - from) from) ⌝ }
 {
     let mut have = 0u64;
     let mut j = from;
     while j < t.len() / 2 {
         let here = tables::level(t, j);
         if here <= above {
-            return have;
+            return false;
         }
         if here == above + 1 {
-            if satisfies(t, u, j, left) {
+            let good = enough(t, u, j) || (deeper(t, j) && satisfies(t, u, j, left));
+            if good {
                 have += 1;
+                if have == wanted {
+                    return true;
+                }
             }
         }
         j += 1;
     }
-    have
+    false
 }
 
-// Whether u satisfies record r, with `left` levels below it. Where its members are enough the inner sets are not looked at.
+// Whether u satisfies record r, with `left` levels below it.
 pub fn satisfies(t: &[u64], u: u64, r: usize, left: usize) -> bool
     requires { ⌜ (check (now t) ≡ sound) × (r < records (now t)) ⌝ }
     ensures { λ o. ⌜ o ≡ satisfiesAt left (now (t .entry)) u r ⌝ }
@@ -51,5 +76,5 @@ pub fn satisfies(t: &[u64], u: u64, r: usize, left: usize) -> bool
     if left == 0 {
         return false;
     }
-    need <= have + inner_met(t, u, r + 1, tables::level(t, r), left - 1)
+    inner_enough(t, u, r + 1, tables::level(t, r), left - 1, need - have)
 }

@@ -8,7 +8,7 @@ ghost use lib.ListN.{length};
 ghost use Rattle.sets.specs.Sets.{has, nobody, only, _∪_, _∖_, empty, each};
 ghost use Rattle.meanings.specs.Table.{nodes, satisfied};
 ghost use Rattle.meanings.specs.Quorums.{greatest};
-ghost use Rattle.plans.specs.Plans.{Planned, likeAt, touchedAt};
+ghost use Rattle.plans.specs.Plans.{Planned, headAt, likeAt, touchedAt};
 ghost use Rattle.lasting.specs.Lasting.{holding, Waiting, Due, Striking};
 
 // The node to judge next: one that must stay, where one is due.
@@ -21,6 +21,14 @@ fn next(due: u64, must: u64) -> u64
         return sets::first(urgent);
     }
     sets::first(due)
+}
+
+// The record that is judged for node v.
+fn head(plan: &[u64], v: u64) -> usize
+    requires { ⌜ (v < 64) × (3 * v + 2 < length (now plan)) ⌝ }
+    ensures { λ o. ⌜ o ≡ headAt (now (plan .entry)) v ⌝ }
+{
+    plan[3 * v as usize] as usize
 }
 
 // The nodes alike with node v, itself among them.
@@ -39,12 +47,16 @@ fn touched(plan: &[u64], v: u64) -> u64
     plan[3 * v as usize + 2]
 }
 
-// Whether `with` satisfies node v, and so each node alike.
+// Whether `with` satisfies node v, and so each node alike. Where its members are enough, no call is made.
 fn meets(t: &[u64], plan: &[u64], with: u64, v: u64) -> bool
     requires { ⌜ (Planned (now t) (now plan)) × (v < nodes (now t)) ⌝ }
     ensures { λ o. ⌜ ((i : ℕ) → has (likeAt (now (plan .entry)) v) i ≡ true → satisfied (now (t .entry)) with i ≡ o) ⌝ }
 {
-    judge::satisfies(t, with, plan[3 * v as usize] as usize, 3)
+    let r = head(plan, v);
+    if judge::enough(t, with, r) {
+        return true;
+    }
+    judge::satisfies(t, with, r, 3)
 }
 
 // The greatest quorum within u with d counted out, where it has all of `must`; otherwise nobody.
