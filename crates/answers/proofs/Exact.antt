@@ -1,8 +1,7 @@
 -- Two answers that say the same are the same: from what an answer says, the answer can be read back.
 use mathlib.Core.Path.{_≡_, refl, sym, ap, _∙_}
 use mathlib.Core.Bool.{Bool, true, false, _&&_}
-use mathlib.Core.List.{List, [], _∷_}
-use Prim.Native.Nat.{ℕ}
+use mathlib.Core.List.{[]}
 use lib.Dec.{eqb, leb}
 use Rattle.meanings.specs.Replies.{Reply, value, valueIn, Place, Nodes, Records, Answer, Set, Rounds, First, Second, Count, Visits}
 use Rattle.answers.specs.declared.Fault.{Fault}

@@ -1,6 +1,5 @@
 -- Document 01, 'Numbers given back': the number and the values of each case of each answer.
-use mathlib.Core.List.{List, [], _∷_}
-use Prim.Native.Nat.{ℕ}
+use mathlib.Core.List.{[], _∷_}
 use Rattle.meanings.specs.Replies.{Reply, reply, _is_, Place, Nodes, Records, Answer, Set, Rounds, First, Second, Count, Visits}
 use Rattle.answers.specs.declared.Fault.{Fault}
 use Rattle.answers.specs.declared.Fault.the-variants as Fx

@@ -3,13 +3,13 @@ use mathlib.Core.Path.{_≡_, refl, sym, ap, ap₂, _∙_, subst}
 use mathlib.Core.Bool.{Bool, true, false, not}
 use mathlib.Core.List.{List}
 use mathlib.Core.Logic.{_⊎_, inl, inr, ⊎-elim}
-use Prim.Native.Nat.{ℕ, _^_, _≤_, _<_}
+use Prim.Native.Nat.{ℕ, _^_, _<_}
 use native.Mathlib.Omega.{arith}
 use borrow.Author.Tests.{eqb-true, eqb-false, eq-eqb, ne-eqb}
 use lib.Bits.{or-comm, or-zero-r}
 use Rattle.sets.specs.Sets.{nobody, only, _∪_, _∖_, empty, within, each}
 use Rattle.sets.proofs.Bools.{either, clash, or-fails, or-left, or-right, or-neither, not-fails}
-use Rattle.sets.proofs.Members.{In, has-below, ∖-lt, within-sub}
+use Rattle.sets.proofs.Members.{has-below, ∖-lt, within-sub}
 use Rattle.meanings.specs.Table.{nodes, satisfied}
 use Rattle.meanings.specs.Quorums.{quorum, greatest}
 use Rattle.theory.proofs.Greatest.{greatest-lt, greatest-apart}
@@ -17,7 +17,6 @@ use Rattle.theory.proofs.Tests.{no-nodes, as-settled}
 use Rattle.tables.proofs.Sound.{sound-table}
 use Rattle.plans.specs.Plans.{Planned}
 use Rattle.lasting.specs.Lasting.{holding, Waiting, Apart, Striking}
-use Rattle.lasting.proofs.Laws.{holding-nobody}
 use Rattle.lasting.proofs.Below.{held, not-held, held-is, apart-none, none-waiting, waiting-grows, one-lt, strikes-one, left-out, taken-in}
 use Rattle.branches.specs.declared.Visit.{Visit}
 use Rattle.branches.specs.Branches.{reach, dry, Stands, Waiter, Ready, Below}

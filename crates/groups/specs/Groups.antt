@@ -3,7 +3,7 @@
 use mathlib.Core.Path.{_≡_}
 use mathlib.Core.Bool.{Bool, true, false}
 use mathlib.Core.List.{List}
-use Prim.Native.Nat.{ℕ, zero, suc, _+_, _*_, _<_, _≤_, _^_}
+use Prim.Native.Nat.{ℕ, zero, suc, _+_, _*_, _<_, _≤_}
 use lib.ListN.{length, getD}
 use Rattle.sets.specs.Sets.{has, nobody, _∪_, _∩_}
 use Rattle.meanings.specs.Table.{records, nodes, satisfies, satisfied}

@@ -3,7 +3,7 @@
 use mathlib.Core.Path.{_≡_, refl, sym, ap, ap₂, _∙_, subst}
 use mathlib.Core.Bool.{Bool, true, false}
 use mathlib.Core.List.{List}
-use Prim.Native.Nat.{ℕ, zero, suc, _/_, _^_, _<_}
+use Prim.Native.Nat.{ℕ, zero, suc, _^_, _<_}
 use native.Mathlib.Nat.{not-suc-le-zero}
 use native.Mathlib.Omega.{arith}
 use borrow.Author.Tests.{eq-eqb, ne-eqb}
@@ -11,22 +11,21 @@ use lib.Pow.{pow-pos}
 use Rattle.sets.specs.Sets.{nobody, everyone, has, _∩_, _∖_, empty, size}
 use Rattle.sets.proofs.Bools.{clash}
 use Rattle.sets.proofs.Members.{∖-out, ∖-lt, none-in, everyone-lt, sub-antisym}
-use Rattle.sets.proofs.Size.{sub-size, size-le, size-at}
+use Rattle.sets.proofs.Size.{sub-size, size-le}
 use Rattle.meanings.specs.Table.{nodes, satisfied}
 use Rattle.meanings.specs.Quorums.{ground, greatest}
-use Rattle.meanings.specs.Trees.{Pair, Walk, hit, missed, stuck, verdictTree, walk}
+use Rattle.meanings.specs.Trees.{Pair, Walk, hit, missed, stuck}
 use Rattle.meanings.specs.Intact.{Ended, endedLater, verdict, nextU, roundsFrom, intactSearch}
 use Rattle.theory.proofs.Quorum.{Monotone}
 use Rattle.theory.proofs.Greatest.{greatest-lt, greatest-sub}
 use Rattle.theory.proofs.Verdict.{Sound, Decided, all-meet, two-apart, decided}
 use Rattle.theory.proofs.Intact.{ground-others, rounds-step, search-step, next-lt, next-fewer}
-use Rattle.tables.proofs.Sound.{sound-table}
 use Rattle.judge.proofs.Monotone.{satisfied-monotone}
 use Rattle.answers.specs.declared.Verdict.{Verdict}
 use Rattle.answers.specs.declared.Verdict.the-variants as Vx
-use Rattle.verdict.specs.Search.{Visiting, treeOf, within as verdictWithin}
+use Rattle.verdict.specs.Search.{within as verdictWithin}
 use Rattle.verdict.proofs.Allowance.{NotYes}
-use Rattle.intact.specs.Rounds.{Asked, within, onYes, onNo, roundsOf, Sequel}
+use Rattle.intact.specs.Rounds.{within, onYes, onNo, roundsOf, Sequel}
 use Rattle.intact.proofs.Allowance.{NotNo, after, round-ends, plain-ends, said-yes, said-no}
 
 module _ (n : ℕ) (s : ℕ → ℕ → Bool) (mono : Monotone s) where

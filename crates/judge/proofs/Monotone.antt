@@ -1,12 +1,11 @@
 -- Satisfaction by a table's quorum sets is monotone: when a set grows, the members in it and the inner sets that it satisfies only grow.
-use mathlib.Core.Path.{_≡_, refl, sym, ap, _∙_}
+use mathlib.Core.Path.{_≡_, refl}
 use mathlib.Core.Bool.{Bool, true, false}
 use mathlib.Core.List.{List, [], _∷_}
-use Prim.Native.Nat.{ℕ, zero, suc, _+_, _≤_, _<_}
+use Prim.Native.Nat.{ℕ, zero, suc, _+_, _≤_}
 use native.Mathlib.Nat.{le-refl}
 use native.Mathlib.Omega.{arith}
 use borrow.Author.Tests.{leb-true, le-leb}
-use lib.Dec.{leb}
 use lib.ListN.{length}
 use Rattle.sets.specs.Sets.{size, _∩_}
 use Rattle.sets.specs.Lists.{consIf, keep}

@@ -7,9 +7,9 @@ use mathlib.Core.Logic.{_⊎_, inl, inr, ⊎-elim}
 use Prim.Native.Nat.{ℕ, _^_, _<_}
 use borrow.Author.Tests.{eqb-true, eqb-false, ne-eqb}
 use lib.Pow.{pow-pos, pow-lt}
-use Rattle.sets.specs.Sets.{has, nobody, only, _∪_, _∩_, _∖_, empty, within, each}
+use Rattle.sets.specs.Sets.{has, nobody, only, _∪_, _∩_, _∖_, empty, within}
 use Rattle.sets.proofs.Bools.{either, clash, fails, not-holds, bool-ext}
-use Rattle.sets.proofs.Members.{In, Sub, has-below, ∪-left, ∪-right, ∪-cases, ∪-lt, ∩-out, ∩-lt, ∖-in, ∖-out, ∖-lt, none-in, only-in, only-out, sub-antisym, sub-within, within-sub, within-lt}
+use Rattle.sets.proofs.Members.{In, Sub, has-below, ∪-left, ∪-right, ∪-cases, ∪-lt, ∩-out, ∩-lt, ∖-in, ∖-out, ∖-lt, none-in, only-out, sub-antisym, sub-within, within-sub, within-lt}
 use Rattle.meanings.specs.Table.{nodes, satisfied}
 use Rattle.meanings.specs.Quorums.{quorum, greatest, holdsQuorum}
 use Rattle.theory.proofs.Quorum.{Monotone, ∪-grows, Quorum, quorum-is}

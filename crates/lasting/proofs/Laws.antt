@@ -4,27 +4,26 @@ use mathlib.Core.Path.{_≡_, refl, sym, ap, _∙_, subst}
 use mathlib.Core.Bool.{Bool, true, false}
 use mathlib.Core.List.{List}
 use mathlib.Core.Logic.{_⊎_, inl, inr, ⊎-elim}
-use Prim.Native.Nat.{ℕ, suc, _+_, _*_, _^_, _≤_, _<_}
+use Prim.Native.Nat.{ℕ, _+_, _*_, _^_, _≤_, _<_}
 use native.Mathlib.Omega.{arith}
 use borrow.Author.Tests.{eqb-true, eqb-false, eq-eqb, ne-eqb}
 use lib.Bits.{and-comm}
-use lib.Dec.{eqb}
 use lib.ListN.{length}
 use lib.Pow.{pow-mono, pow-pos}
 use Rattle.sets.specs.Sets.{has, nobody, only, _∪_, _∩_, _∖_, empty, within, size, lowest, each}
-use Rattle.sets.proofs.Bools.{either, clash, fails, bool-ext}
-use Rattle.sets.proofs.Members.{In, Sub, has-nobody, has-below, ∪-left, ∪-right, ∪-cases, ∩-in, ∩-out, ∩-lt, ∖-in, ∖-out, ∖-lt, none-in, only-in, only-out, sub-antisym, sub-within, within-sub, within-lt, at-each, each-at}
-use Rattle.sets.proofs.Size.{size-lt, size-le, sub-size}
+use Rattle.sets.proofs.Bools.{either, clash, fails}
+use Rattle.sets.proofs.Members.{In, Sub, has-nobody, has-below, ∪-left, ∪-right, ∪-cases, ∩-in, ∩-out, ∩-lt, ∖-in, ∖-out, ∖-lt, none-in, only-out, sub-antisym, sub-within, within-sub, within-lt, at-each, each-at}
+use Rattle.sets.proofs.Size.{size-lt, size-le}
 use Rattle.sets.proofs.Lowest.{lowest-in}
 use Rattle.meanings.specs.Table.{nodes, satisfied}
-use Rattle.meanings.specs.Quorums.{quorum, greatest}
-use Rattle.theory.proofs.Quorum.{Monotone, ∪-grows, Quorum, quorum-is}
-use Rattle.theory.proofs.Greatest.{greatest-lt, greatest-from, greatest-sub, greatest-apart, greatest-has, greatest-grows, greatest-unique, greatest-quorum}
+use Rattle.meanings.specs.Quorums.{greatest}
+use Rattle.theory.proofs.Quorum.{Monotone, ∪-grows}
+use Rattle.theory.proofs.Greatest.{greatest-lt, greatest-from, greatest-sub, greatest-has, greatest-grows, greatest-unique}
 use Rattle.tables.proofs.Sound.{sound-table}
 use Rattle.judge.proofs.Monotone.{satisfied-monotone}
 use Rattle.groups.specs.Groups.{whereTrue}
 use Rattle.plans.specs.Plans.{Planned, likeAt, touchedAt}
-use Rattle.lasting.specs.Lasting.{holding, Waiting, Apart, Due, Closed, Striking}
+use Rattle.lasting.specs.Lasting.{holding, Waiting, Due, Striking}
 
 -- ---- striking, for any monotone satisfaction
 module _ (n : ℕ) (s : ℕ → ℕ → Bool) (mono : Monotone s) (d : ℕ) where

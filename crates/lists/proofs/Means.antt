@@ -4,18 +4,18 @@
 use mathlib.Core.Path.{_≡_, refl, sym, ap, _∙_, subst}
 use mathlib.Core.Bool.{Bool, true, false, cond}
 use mathlib.Core.List.{List, [], _∷_, _++_}
-use Prim.Native.Nat.{ℕ, suc, _+_, _^_, _≤_, _<_}
+use Prim.Native.Nat.{ℕ, suc, _+_, _^_, _≤_}
 use native.Mathlib.Omega.{arith}
 use borrow.Author.Tests.{leb-true, le-leb, ltb-false}
-use lib.Dec.{leb, ltb, eqb}
+use lib.Dec.{leb, ltb}
 use lib.ListN.{length, drop}
 use Rattle.sets.specs.Sets.{everyone, size}
 use Rattle.sets.proofs.Size.{size-everyone}
 use Rattle.meanings.specs.Table.{nodes, satisfied}
 use Rattle.meanings.specs.Faults.{Check, sound, fault, check}
 use Rattle.meanings.specs.Quorums.{minimalQuorums, minimalBlockingSets}
-use Rattle.meanings.specs.Trees.{Tree, Listing, listed, broken, list, minimalTree, blockingTree}
-use Rattle.meanings.specs.Replies.{Reply, reply, _is_, Place, Count, Visits, leaves, value, valueIn}
+use Rattle.meanings.specs.Trees.{Listing, listed, broken, list, minimalTree, blockingTree}
+use Rattle.meanings.specs.Replies.{Reply, reply, _is_, Count, Visits, leaves, value, valueIn}
 use Rattle.meanings.specs.Questions.{onCheck, listSays, listPuts, minimalReply, blockingReply}
 use Rattle.theory.proofs.Walks.{visits}
 use Rattle.theory.proofs.Minimal.{minimal-listed, minimal-visits}

@@ -1,6 +1,6 @@
 -- Rows beside P1 to P11: the small cases that a person would try by hand, and those that shut out wrong readings which P1 to P11
 -- alone let pass. The answers are the second house's.
-use mathlib.Core.Path.{_≡_, refl}
+use mathlib.Core.Path.{refl}
 use mathlib.Core.List.{List, [], _∷_}
 use Prim.Native.Nat.{ℕ}
 use Rattle.sets.specs.Sets.{nobody}

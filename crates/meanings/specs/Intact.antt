@@ -4,7 +4,7 @@ use mathlib.Core.Bool.{Bool, true, false}
 use Prim.Native.Nat.{ℕ, zero, suc, _+_}
 use Rattle.sets.specs.Sets.{nobody, everyone, _∩_, _∖_, empty}
 use Rattle.meanings.specs.Quorums.{greatest}
-use Rattle.meanings.specs.Trees.{Pair, Walk, hit, missed, stuck, later, walk, verdictTree}
+use Rattle.meanings.specs.Trees.{Pair, Walk, hit, missed, stuck, walk, verdictTree}
 
 -- How an intact question ends: with the set of intact nodes; or at the plain verdict, with two disjoint quorums; or where a
 -- search has no node to split on. The number is the visits of all verdicts up to there.

@@ -5,12 +5,12 @@ use mathlib.Core.List.{List, [], _∷_}
 use Prim.Native.Nat.{ℕ}
 use lib.Dec.{leb, ltb}
 use lib.ListN.{length}
-use Rattle.sets.specs.Sets.{nobody, everyone, within}
+use Rattle.sets.specs.Sets.{everyone, within}
 use Rattle.meanings.specs.Table.{records, nodes, satisfied}
 use Rattle.meanings.specs.Faults.{Check, sound, fault, check}
 use Rattle.meanings.specs.Quorums.{quorum, greatest, blocks}
 use Rattle.meanings.specs.Rounds.{rounds}
-use Rattle.meanings.specs.Trees.{Tree, Pair, Walk, hit, missed, stuck, Listing, listed, broken, walk, list, verdictTree, minimalTree, blockingTree}
+use Rattle.meanings.specs.Trees.{Pair, Walk, hit, missed, stuck, Listing, listed, broken, walk, list, verdictTree, minimalTree, blockingTree}
 use Rattle.meanings.specs.Intact.{Ended, intactAre, divided, stuckAfter, intactSearch}
 use Rattle.meanings.specs.Replies.{Reply, reply, _is_, Place, Nodes, Records, Answer, Set, Rounds, First, Second, Count, Visits}
 

@@ -1,5 +1,5 @@
 -- Document 01, 'Numbers given back': what an operation answers, and what it leaves in a lent buffer.
-use mathlib.Core.Bool.{Bool, true, false}
+use mathlib.Core.Bool.{true, false}
 use mathlib.Core.List.{List, [], _∷_, _++_}
 use Prim.Native.Nat.{ℕ}
 use lib.Dec.{eqb}

@@ -1,8 +1,8 @@
 -- A row of document 01's table of points: a table, a question and its answer; and what it is for a row to hold.
 use mathlib.Core.Path.{_≡_}
-use mathlib.Core.Bool.{Bool, true, false, not, cond}
+use mathlib.Core.Bool.{Bool, not, cond}
 use mathlib.Core.List.{List, [], _∷_, map, foldr}
-use Prim.Native.Nat.{ℕ, zero, suc, _+_, _*_}
+use Prim.Native.Nat.{ℕ, _+_, _*_}
 use lib.Dec.{eqb}
 use lib.Count.{trailingZeros}
 use Rattle.sets.specs.Sets.{has, only, nobody, everyone, _∪_, _∖_, size, within, smaller, meets, setOf, each}

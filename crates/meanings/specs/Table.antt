@@ -1,9 +1,9 @@
 -- Document 01, 'The packed table' and the first of its 'Meanings'.
 -- A table is a list of words, two a record: the control word, threshold + 256 x level, and the member mask.
-use mathlib.Core.Bool.{Bool, true, false, not, _&&_, _||_}
-use mathlib.Core.List.{List, [], _∷_}
+use mathlib.Core.Bool.{Bool, not, _&&_}
+use mathlib.Core.List.{List, []}
 use Prim.Native.Nat.{ℕ, zero, suc, _+_, _-_, _*_, _/_, _%_}
-use lib.Dec.{leb, ltb, eqb}
+use lib.Dec.{leb, eqb}
 use lib.ListN.{length, getD}
 use Rattle.sets.specs.Sets.{size, _∩_}
 use Rattle.sets.specs.Lists.{keep, some, from}

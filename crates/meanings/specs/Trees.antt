@@ -1,5 +1,5 @@
 -- Document 01, 'The search trees': which visits a search makes. What an answer means stands in Quorums, which knows no tree.
-use mathlib.Core.Bool.{Bool, true, false, not, _&&_, _||_}
+use mathlib.Core.Bool.{Bool, true, false, not, _||_}
 use mathlib.Core.List.{List, [], _∷_, _++_}
 use Prim.Native.Nat.{ℕ, zero, suc, _+_, _/_}
 use lib.Dec.{ltb}

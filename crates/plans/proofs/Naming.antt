@@ -8,11 +8,11 @@ use Prim.Native.Nat.{ℕ, zero, suc, _+_, _-_, _<_, _≤_}
 use native.Mathlib.Numerals.{sub-one}
 use native.Mathlib.Omega.{arith}
 use borrow.Author.Tests.{eqb-true, eqb-false, leb-true, le-leb}
-use lib.Dec.{leb, eqb}
+use lib.Dec.{eqb}
 use lib.ListN.{length, set}
 use lib.Seq.{getD-set-same, getD-set-other}
 use Rattle.sets.specs.Sets.{size, _∪_, _∩_}
-use Rattle.sets.proofs.Bools.{either, or-cases}
+use Rattle.sets.proofs.Bools.{either}
 use Rattle.sets.proofs.Members.{In, Sub, ∪-left, ∪-right, ∩-in, ∩-out}
 use Rattle.sets.proofs.Size.{le-or-lt, sub-size}
 use Rattle.meanings.specs.Table.{records, members, threshold, level, satisfies}

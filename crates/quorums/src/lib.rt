@@ -2,7 +2,7 @@
 // node? Any list of words may be asked about: the numbers 1 to 7 of its table come first, then 8, then the answer.
 ghost use mathlib.Core.Path.{_≡_};
 ghost use mathlib.Core.Bool.{true};
-ghost use Prim.Native.Nat.{ℕ, _<_, _≤_};
+ghost use Prim.Native.Nat.{_<_, _≤_};
 ghost use Rattle.sets.specs.Sets.{within as withinSet, everyone};
 ghost use Rattle.meanings.specs.Table.{records, nodes as nodesOf, headOf, satisfied};
 ghost use Rattle.meanings.specs.Faults.{check, sound};

@@ -4,20 +4,20 @@ use mathlib.Core.Path.{_≡_, refl, sym, ap, _∙_, subst}
 use mathlib.Core.Bool.{Bool, true, false}
 use mathlib.Core.List.{List}
 use mathlib.Core.Logic.{_⊎_, inl, inr, ⊎-elim}
-use Prim.Native.Nat.{ℕ, zero, suc, _+_, _*_, _^_, _≤_, _<_}
+use Prim.Native.Nat.{ℕ, zero, suc, _+_, _^_, _≤_, _<_}
 use native.Mathlib.Nat.{not-suc-le-zero, le-refl}
 use native.Mathlib.Numerals.{add-one}
 use native.Mathlib.Omega.{arith}
-use borrow.Author.Tests.{eqb-true, eqb-false, eq-eqb, ne-eqb}
+use borrow.Author.Tests.{eq-eqb, ne-eqb}
 use lib.Pow.{pow-pos}
 use Rattle.sets.specs.Sets.{nobody, _∪_, _∩_, _∖_, size, lowest, each}
 use Rattle.sets.proofs.Bools.{either, clash, fails}
-use Rattle.sets.proofs.Members.{In, Sub, has-below, ∪-left, ∪-right, ∪-cases, ∪-lt, ∩-in, ∩-out, ∩-lt, ∖-lt, none-in, sub-antisym, each-at, at-each}
+use Rattle.sets.proofs.Members.{In, has-below, ∪-left, ∪-right, ∪-cases, ∪-lt, ∩-in, ∩-out, ∩-lt, ∖-lt, none-in, sub-antisym, each-at, at-each}
 use Rattle.sets.proofs.Lowest.{lowest-in}
 use Rattle.sets.proofs.Size.{le-or-lt, size-le}
 use Rattle.meanings.specs.Table.{nodes, satisfies, satisfied}
 use Rattle.meanings.specs.Quorums.{greatest}
-use Rattle.meanings.specs.Rounds.{round, lastRound, roundsFrom, leftFrom, rounds, survivors}
+use Rattle.meanings.specs.Rounds.{round, roundsFrom, leftFrom, rounds, survivors}
 use Rattle.theory.proofs.Rounds.{round-lt, round-in, round-out, round-less, is-last, is-not-last, left-stops, left-goes-on, rounds-stop, rounds-go-on, survivors-greatest}
 use Rattle.judge.proofs.Monotone.{satisfied-monotone}
 use Rattle.groups.specs.Groups.{recordAt, nodesAt, Grouped, whereTrue, staying, stayingOf}

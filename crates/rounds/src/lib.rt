@@ -1,7 +1,7 @@
 // The greatest quorum within a set, by rounds (document 01, 'Meanings'): a round drops, all at once, every node that those present, with
 // the nodes counted out added, do not satisfy.
 ghost use mathlib.Core.Path.{_≡_};
-ghost use Prim.Native.Nat.{ℕ, _<_, _^_};
+ghost use Prim.Native.Nat.{_<_};
 ghost use Rattle.sets.specs.Sets.{each};
 ghost use Rattle.meanings.specs.Table.{nodes, satisfied};
 ghost use Rattle.meanings.specs.Quorums.{greatest, quorum as quorumIs};

@@ -1,15 +1,15 @@
 -- The list of all sets of n nodes has each of them, so a test over it is a statement over all sets below 2 ^ n.
 use mathlib.Core.Path.{_≡_, refl, sym, ap, _∙_, subst}
-use mathlib.Core.Bool.{Bool, true, false, not, _&&_, _||_}
+use mathlib.Core.Bool.{Bool, true, false}
 use mathlib.Core.List.{List, [], _∷_, _++_, map}
 use mathlib.Core.Logic.{_⊎_, inl, inr, ⊎-elim}
-use Prim.Native.Nat.{ℕ, zero, suc, _+_, _*_, _/_, _%_, _^_, _≤_, _<_}
-use native.Mathlib.Nat.{pow-suc, zero-lt-suc, mod-lt}
+use Prim.Native.Nat.{ℕ, zero, suc, _+_, _*_, _/_, _%_, _^_, _<_}
+use native.Mathlib.Nat.{pow-suc}
 use native.Mathlib.Omega.{arith}
 use lib.Arith.{lt-one}
 use Rattle.sets.specs.Lists.{consIf, keep, all, some}
 use Rattle.sets.specs.Listing.{subsets, allSets, someSet, setsThat}
-use Rattle.sets.proofs.Bools.{either, clash, and-parts, and-both, or-cases, or-left, or-right}
+use Rattle.sets.proofs.Bools.{clash, and-parts, and-both, or-cases, or-left, or-right}
 use Rattle.sets.proofs.Members.{half-lt}
 
 -- ---- x stands in the list l

@@ -1,8 +1,8 @@
 -- The lowest node of a set: it is in the set, and no lower node is. By halving, as the machine's count of zeros is told.
-use mathlib.Core.Path.{_≡_, refl, sym, ap, _∙_, subst}
-use mathlib.Core.Bool.{Bool, true, false}
-use Prim.Native.Nat.{ℕ, zero, suc, _+_, _/_, _%_, _^_, _≤_, _<_}
-use native.Mathlib.Nat.{not-suc-le-zero, le-of-suc-le-suc, zero-lt-suc, lt-irrefl, lt-of-lt-of-le}
+use mathlib.Core.Path.{_≡_, refl, ap, _∙_}
+use mathlib.Core.Bool.{false}
+use Prim.Native.Nat.{ℕ, zero, suc, _/_, _%_, _^_, _≤_, _<_}
+use native.Mathlib.Nat.{not-suc-le-zero, le-of-suc-le-suc, zero-lt-suc, lt-of-lt-of-le}
 use native.Mathlib.Decide.{le-ind}
 use native.Mathlib.Omega.{arith}
 use lib.Dec.{eqb}

@@ -1,19 +1,19 @@
 -- Which nodes are in a set that an operation makes. Each law is read off one binary digit; two sets with the same nodes are one
 -- number, since a number is its digits.
-use mathlib.Core.Path.{_≡_, refl, sym, ap, ap₂, _∙_, subst}
+use mathlib.Core.Path.{_≡_, refl, sym, ap, _∙_, subst}
 use mathlib.Core.Bool.{Bool, true, false, not, _&&_, _||_}
 use mathlib.Core.Logic.{_⊎_, inl, inr, ⊎-elim}
-use Prim.Native.Nat.{ℕ, zero, suc, _+_, _-_, _*_, _/_, _%_, _^_, _≤_, _<_, min, max}
-use native.Mathlib.Nat.{not-suc-le-zero, le-of-suc-le-suc, mod-lt, div-one, div-div-eq-div-mul, pow-suc, pow-succ', zero-div, lt-of-lt-of-le, lt-of-le-of-lt, one-mul, zero-lt-suc, le-refl, mod-eq-of-lt}
+use Prim.Native.Nat.{ℕ, zero, suc, _+_, _-_, _*_, _/_, _%_, _^_, _<_, min, max}
+use native.Mathlib.Nat.{not-suc-le-zero, le-of-suc-le-suc, div-one, div-div-eq-div-mul, pow-suc, pow-succ', zero-div, lt-of-le-of-lt, one-mul, zero-lt-suc, le-refl}
 use native.Mathlib.Omega.{arith}
 use native.Mathlib.Numerals.{add-one}
-use borrow.Author.Tests.{eqb-true, eqb-false, eq-eqb, ne-eqb, lt-ltb, le-ltb, ltb-true}
+use borrow.Author.Tests.{eqb-true, eq-eqb, ne-eqb, lt-ltb, le-ltb, ltb-true}
 use lib.Dec.{eqb, ltb, eqb·zero-suc, eqb·suc-zero, eqb·suc-suc}
-use lib.Arith.{digits-mod, digits-div, lt-one}
-use lib.Pow.{pow-pos, pow-lt, pow-mono}
+use lib.Arith.{digits-mod, lt-one}
+use lib.Pow.{pow-pos}
 use lib.Bits.{bitAnd, bitOr, bitXor, and-step, or-step, xor-step, and-shr, or-shr, xor-shr, differ, and-le-l, or-lt, xor-lt, or-shifted, or-comm}
-use Rattle.sets.specs.Sets.{has, nobody, everyone, only, _∪_, _∩_, _∖_, empty, within, smaller, meets, put, setOf, each}
-use Rattle.sets.proofs.Bools.{either, clash, and-parts, and-both, or-cases, or-left, or-right, bool-ext, not-holds, fails}
+use Rattle.sets.specs.Sets.{has, nobody, everyone, only, _∪_, _∩_, _∖_, within, meets, put, setOf, each}
+use Rattle.sets.proofs.Bools.{clash, and-parts, and-both, or-cases, or-left, or-right, bool-ext, not-holds}
 
 -- node i is in m; a is part of b
 abbrev pub In : ℕ → ℕ → Type 0

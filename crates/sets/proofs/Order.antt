@@ -1,22 +1,21 @@
 -- The listing order is total, the list of all sets rises in it, and a list that rises has no repeats and is known by its members.
 -- One set is ahead of another at the lowest node that is in exactly one of them, which it lacks.
 use mathlib.Core.Path.{_≡_, refl, sym, ap, ap₂, _∙_, subst}
-use mathlib.Core.Bool.{Bool, true, false, not, _&&_, _||_}
+use mathlib.Core.Bool.{Bool, true, false, not}
 use mathlib.Core.List.{List, [], _∷_, _++_, map}
 use mathlib.Core.Logic.{_⊎_, inl, inr, ⊎-elim}
 use Prim.Native.Nat.{ℕ, zero, suc, _+_, _*_, _/_, _%_, _^_, _≤_, _<_}
-use native.Mathlib.Nat.{not-suc-le-zero, le-of-suc-le-suc, zero-lt-suc}
+use native.Mathlib.Nat.{not-suc-le-zero, le-of-suc-le-suc}
 use native.Mathlib.Omega.{arith}
-use borrow.Author.Tests.{ne-eqb, eq-eqb}
 use lib.Dec.{eqb}
 use Rattle.sets.specs.Sets.{has, nobody, lowest, _∪_, _∖_}
 use Rattle.sets.specs.Lists.{consIf, keep}
 use Rattle.sets.specs.Listing.{before, subsets, setsThat}
-use Rattle.sets.proofs.Bools.{either, clash, and-parts, and-both, bool-ext, not-holds, fails}
-use Rattle.sets.proofs.Members.{In, none-in, has-nobody, has-zero, has-suc, has-below, ext, ∪-left, ∪-right, ∪-cases, ∪-lt, ∖-in, ∖-out, ∖-lt}
+use Rattle.sets.proofs.Bools.{clash, and-parts, and-both, not-holds}
+use Rattle.sets.proofs.Members.{In, none-in, has-nobody, has-zero, has-suc, ext, ∪-left, ∪-right, ∪-cases, ∪-lt, ∖-in, ∖-out, ∖-lt}
 use Rattle.sets.proofs.Size.{le-or-lt}
-use Rattle.sets.proofs.Lowest.{lowest-in, lowest-first, lowest-lt}
-use Rattle.sets.proofs.Listing.{Among, among-left, among-right, among-cases, map-among, keep-out, subsets-lt}
+use Rattle.sets.proofs.Lowest.{lowest-in, lowest-first}
+use Rattle.sets.proofs.Listing.{Among, among-cases, map-among, keep-out}
 
 -- a comes before b, at the node where
 pub record Ahead (a b : ℕ) : Type 0 where

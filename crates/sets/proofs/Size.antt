@@ -1,20 +1,19 @@
 -- How many nodes a set has. A part has no more; a part with as many is the whole; and what two sets have together and in common
 -- is what they have apart. All by halving.
 use mathlib.Core.Path.{_≡_, refl, sym, ap, _∙_, subst}
-use mathlib.Core.Bool.{Bool, true, false}
+use mathlib.Core.Bool.{false}
 use mathlib.Core.Logic.{_⊎_, inl, inr, ⊎-elim}
-use Prim.Native.Nat.{ℕ, zero, suc, _+_, _-_, _*_, _/_, _%_, _^_, _≤_, _<_, zero-le}
-use native.Mathlib.Nat.{not-suc-le-zero, le-of-suc-le-suc, pow-suc, zero-lt-suc, le-refl, lt-of-lt-of-le}
-use native.Mathlib.Decide.{le-ind}
+use Prim.Native.Nat.{ℕ, zero, suc, _+_, _-_, _*_, _/_, _%_, _^_, _≤_, _<_}
+use native.Mathlib.Nat.{pow-suc, zero-lt-suc, le-refl, lt-of-lt-of-le}
 use native.Mathlib.Omega.{arith}
 use borrow.Author.Tests.{eqb-true, eq-eqb}
 use lib.Arith.{digits-div, lt-one}
 use lib.Pow.{pow-pos, pow-mono}
 use lib.Bits.{bitAnd, bitOr, and-step, or-step}
 use lib.Count.{ones, ones-step}
-use Rattle.sets.specs.Sets.{has, nobody, everyone, only, _∪_, _∩_, _∖_, size}
+use Rattle.sets.specs.Sets.{has, nobody, everyone, _∪_, _∩_, size}
 use Rattle.sets.proofs.Bools.{clash}
-use Rattle.sets.proofs.Members.{In, Sub, has-zero, has-suc, and-low, or-low, half-lt, has-nobody, has-below, none-in, ∪-lt, ∪-cases, ∩-out, sub-antisym}
+use Rattle.sets.proofs.Members.{In, Sub, has-zero, has-suc, and-low, or-low, half-lt, has-nobody, none-in, ∪-cases}
 
 -- of two numbers one is the greater, or they are equal
 pub le-or-lt : (a b : ℕ) → (a ≤ b) ⊎ (b < a)

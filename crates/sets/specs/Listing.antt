@@ -1,5 +1,5 @@
 -- The listing order, and all sets of nodes in it.
-use mathlib.Core.Bool.{Bool, true, false, not, _&&_, _||_}
+use mathlib.Core.Bool.{Bool, not, _&&_}
 use mathlib.Core.List.{List, [], _∷_, _++_, map}
 use Prim.Native.Nat.{ℕ, zero, suc, _+_, _*_}
 use Rattle.sets.specs.Sets.{has, nobody, lowest, _∪_, _∖_}

@@ -1,6 +1,6 @@
 -- Lists and a test: what passes it, whether all or some pass it.
 use mathlib.Core.Bool.{Bool, true, false, _&&_, _||_}
-use mathlib.Core.List.{List, [], _∷_, _++_}
+use mathlib.Core.List.{List, [], _∷_}
 use Prim.Native.Nat.{ℕ, zero, suc}
 
 module _ {A : Type 0} where

@@ -1,6 +1,6 @@
 -- Sets of nodes. A set is written as a number: node i is in it where digit i, of value 2 ^ i, is 1.
 -- That it is a number shows here and nowhere else: all that follows goes by these operations.
-use mathlib.Core.Bool.{Bool, true, false, not, _&&_, _||_}
+use mathlib.Core.Bool.{Bool, true, false, not, _&&_}
 use Prim.Native.Nat.{ℕ, zero, suc, _+_, _-_, _/_, _%_, _^_}
 use lib.Dec.{eqb}
 use lib.Bits.{bitAnd, bitOr, bitXor}

@@ -2,27 +2,26 @@
 -- hold c and lie within c and r. A minimal blocking set that holds c has, besides c, only nodes of the greatest quorum outside c;
 -- so at a split on v, the lowest such node that is open, a lower node is in such a set exactly when it is in c.
 use mathlib.Core.Path.{_≡_, refl, sym, ap, ap₂, _∙_, subst}
-use mathlib.Core.Bool.{Bool, true, false, not, _&&_, _||_}
-use mathlib.Core.List.{List, [], _∷_, _++_}
+use mathlib.Core.Bool.{Bool, true, false, not, _&&_}
+use mathlib.Core.List.{[]}
 use mathlib.Core.Logic.{_⊎_, inl, inr, ⊎-elim}
-use Prim.Native.Nat.{ℕ, zero, suc, _+_, _*_, _^_, _≤_, _<_}
+use Prim.Native.Nat.{ℕ, zero, suc, _*_, _^_, _≤_, _<_}
 use native.Mathlib.Nat.{not-suc-le-zero, le-refl, pow-suc}
 use native.Mathlib.Omega.{arith}
 use borrow.Author.Tests.{eqb-true, eqb-false, eq-eqb, ne-eqb}
-use lib.Dec.{eqb}
 use lib.Pow.{pow-pos, pow-lt, pow-mono}
 use Rattle.sets.specs.Sets.{has, nobody, everyone, only, _∪_, _∩_, _∖_, empty, within, smaller, size, lowest}
 use Rattle.sets.specs.Listing.{someSet, setsThat}
 use Rattle.sets.proofs.Bools.{either, clash, and-parts, and-both, not-holds, not-fails, bool-ext, fails}
-use Rattle.sets.proofs.Members.{In, Sub, has-below, has-everyone, ∪-left, ∪-right, ∪-cases, ∪-lt, ∩-in, ∩-out, ∩-lt, ∖-in, ∖-out, ∖-lt, none-in, only-in, only-out, everyone-lt, everyone-all, within-sub, sub-within}
+use Rattle.sets.proofs.Members.{In, Sub, has-below, has-everyone, ∪-left, ∪-right, ∪-cases, ∪-lt, ∩-in, ∩-out, ∩-lt, ∖-in, ∖-out, ∖-lt, none-in, only-in, only-out, everyone-lt, everyone-all, within-sub}
 use Rattle.sets.proofs.Size.{size-le, size-lt}
 use Rattle.sets.proofs.Lowest.{lowest-in, lowest-lt, lowest-first}
 use Rattle.sets.proofs.Listing.{Among, among-left, among-right, among-cases, someSet-at, at-someSet, setsThat-in, setsThat-out}
 use Rattle.sets.proofs.Order.{Ahead, Rising, rising-append, rising-same, setsThat-rise}
 use Rattle.meanings.specs.Quorums.{quorum, greatest, holdsQuorum, blockingSet, minimalBlocking, minimalBlockingSets}
-use Rattle.meanings.specs.Trees.{Tree, leaf, found, unsplit, fork, listed, foundIf, blockingFrom, blockingTree, list}
-use Rattle.theory.proofs.Quorum.{Monotone, Quorum, quorum-is, is-quorum, a-node}
-use Rattle.theory.proofs.Greatest.{greatest-lt, greatest-sub, greatest-has, greatest-quorum, greatest-from, holds-greatest, greatest-holds}
+use Rattle.meanings.specs.Trees.{Tree, leaf, unsplit, fork, listed, foundIf, blockingFrom, blockingTree, list}
+use Rattle.theory.proofs.Quorum.{Monotone, Quorum, quorum-is, a-node}
+use Rattle.theory.proofs.Greatest.{greatest-sub, greatest-has, greatest-quorum, holds-greatest, greatest-holds}
 use Rattle.theory.proofs.Walks.{finds, visits, Splits, maybe-splits, maybe-visits, maybe-found, found-maybe, list-all}
 use Rattle.theory.proofs.QuorumTree.{few}
 use Rattle.theory.proofs.Minimal.{within-same, smaller-is, one-rises}

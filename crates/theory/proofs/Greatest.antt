@@ -1,18 +1,17 @@
 -- The greatest quorum within u, the union of all quorums in u: it lies in u, every quorum in u lies in it, and it is a quorum or
 -- empty, for each of its nodes is satisfied by a part of it. So it is the largest quorum in u where there is one.
-use mathlib.Core.Path.{_≡_, refl, sym, ap, _∙_, subst}
-use mathlib.Core.Bool.{Bool, true, false, not, _&&_, _||_}
+use mathlib.Core.Path.{_≡_, refl, sym, _∙_, subst}
+use mathlib.Core.Bool.{Bool, true, false, _&&_}
 use mathlib.Core.List.{List, [], _∷_, foldr}
 use mathlib.Core.Logic.{_⊎_, inl, inr, ⊎-elim}
 use Prim.Native.Nat.{ℕ, _^_, _<_}
-use lib.Dec.{eqb}
 use lib.Pow.{pow-pos}
-use Rattle.sets.specs.Sets.{has, nobody, everyone, _∪_, _∖_, empty, within, meets}
-use Rattle.sets.specs.Listing.{setsThat, someSet}
-use Rattle.sets.proofs.Bools.{either, clash, and-parts, and-both, fails}
-use Rattle.sets.proofs.Members.{In, Sub, has-nobody, has-below, ∪-left, ∪-right, ∪-cases, ∪-lt, none-in, within-sub, sub-within, sub-antisym}
+use Rattle.sets.specs.Sets.{has, nobody, _∪_, within}
+use Rattle.sets.specs.Listing.{setsThat}
+use Rattle.sets.proofs.Bools.{clash, and-parts, and-both}
+use Rattle.sets.proofs.Members.{In, Sub, has-nobody, ∪-left, ∪-right, ∪-cases, ∪-lt, none-in, within-sub, sub-within, sub-antisym}
 use Rattle.sets.proofs.Listing.{Among, setsThat-in, setsThat-out, someSet-at, at-someSet}
-use Rattle.meanings.specs.Quorums.{ground, quorum, greatest, holdsQuorum}
+use Rattle.meanings.specs.Quorums.{quorum, greatest, holdsQuorum}
 use Rattle.theory.proofs.Quorum.{Monotone, ∪-grows, Quorum, quorum-is, is-quorum, a-node}
 
 -- ---- the union of a list of sets

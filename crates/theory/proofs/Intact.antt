@@ -2,27 +2,26 @@
 -- every round: what it leaves out is a plain quorum, so it lies in q; and where two quorums q1, q2 are apart with all but q counted
 -- out, the DSet does not leave out a part of both, so what it leaves out lies in W1 or in W2, and in both where neither is empty.
 -- A round that says yes has found a DSet itself, all but q.
-use mathlib.Core.Path.{_≡_, refl, sym, ap, ap₂, _∙_, subst}
+use mathlib.Core.Path.{_≡_, refl, sym, ap, _∙_, subst}
 use mathlib.Core.Bool.{Bool, true, false, not, _&&_, _||_}
 use mathlib.Core.Logic.{_⊎_, inl, inr, ⊎-elim}
 use Prim.Native.Nat.{ℕ, zero, suc, _+_, _*_, _^_, _≤_, _<_}
-use native.Mathlib.Nat.{not-suc-le-zero, le-refl, pow-suc}
+use native.Mathlib.Nat.{not-suc-le-zero, pow-suc}
 use native.Mathlib.Omega.{arith}
-use borrow.Author.Tests.{eqb-true, eqb-false, eq-eqb, ne-eqb}
+use borrow.Author.Tests.{eqb-true, eqb-false, eq-eqb}
 use lib.Dec.{eqb}
 use lib.Pow.{pow-pos, pow-mono}
 use Rattle.sets.specs.Sets.{has, nobody, everyone, _∪_, _∩_, _∖_, empty, within, meets, size, setOf}
-use Rattle.sets.specs.Listing.{someSet}
-use Rattle.sets.proofs.Bools.{either, clash, and-parts, and-both, or-cases, or-left, or-right, not-holds, not-fails, fails}
-use Rattle.sets.proofs.Members.{In, Sub, has-below, has-everyone, ∪-left, ∪-right, ∪-cases, ∪-lt, ∩-in, ∩-out, ∩-lt, ∖-in, ∖-out, ∖-lt, none-in, everyone-lt, everyone-all, within-sub, sub-within, sub-antisym, setOf-in, setOf-out, setOf-lt}
+use Rattle.sets.proofs.Bools.{either, clash, and-parts, and-both, or-cases, or-left, or-right, not-holds, fails}
+use Rattle.sets.proofs.Members.{In, Sub, has-below, has-everyone, ∪-right, ∪-cases, ∪-lt, ∩-in, ∩-out, ∩-lt, ∖-in, ∖-out, ∖-lt, none-in, everyone-lt, within-sub, sub-within, sub-antisym, setOf-in, setOf-out, setOf-lt}
 use Rattle.sets.proofs.Size.{size-lt, size-le, sub-size}
 use Rattle.sets.proofs.Listing.{someSet-at, at-someSet}
 use Rattle.meanings.specs.Quorums.{ground, quorum, greatest, intersecting, dset, intact, intactNodes}
-use Rattle.meanings.specs.Trees.{Pair, Walk, hit, missed, stuck, verdictTree, walk}
-use Rattle.meanings.specs.Intact.{Ended, intactAre, divided, stuckAfter, endedLater, verdict, nextU, onRound, roundsFrom, onPlain, intactSearch}
+use Rattle.meanings.specs.Trees.{Pair, Walk, hit, missed}
+use Rattle.meanings.specs.Intact.{intactAre, divided, endedLater, verdict, nextU, onRound, roundsFrom, onPlain, intactSearch}
 use Rattle.theory.proofs.Quorum.{Monotone, Quorum, quorum-is, is-quorum, a-node, delete-quorum, intersecting-is}
 use Rattle.theory.proofs.Greatest.{greatest-lt, greatest-sub, greatest-has, greatest-quorum}
-use Rattle.theory.proofs.Verdict.{Sound, Decided, all-meet, two-apart, decided, not-meets, meets-not, apart-none}
+use Rattle.theory.proofs.Verdict.{Sound, Decided, all-meet, two-apart, decided, meets-not, apart-none}
 
 -- the visits of one round of a nodes, and of a round with fewer nodes after it
 one-round : (k a u : ℕ) → a ≤ u → suc k ≤ 2 ^ suc a → suc k ≤ 2 ^ suc (suc u)

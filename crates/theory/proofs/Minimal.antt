@@ -1,30 +1,30 @@
 -- The tree of the minimal quorums lists each of them once, in the listing order. Below a visit (c, r) lie exactly the minimal
 -- quorums that hold c and lie within c and r. At a split on v those without v come first, and v is the lowest node at which one
 -- without and one with it differ: a lower node is in c, and so in both, or out of reach, and so in neither.
-use mathlib.Core.Path.{_≡_, refl, sym, ap, ap₂, _∙_, subst}
-use mathlib.Core.Bool.{Bool, true, false, not, _&&_, _||_}
-use mathlib.Core.List.{List, [], _∷_, _++_}
-use mathlib.Core.Logic.{_⊎_, inl, inr, ⊎-elim}
-use Prim.Native.Nat.{ℕ, zero, suc, _+_, _*_, _^_, _≤_, _<_}
-use native.Mathlib.Nat.{not-suc-le-zero, le-refl}
+use mathlib.Core.Path.{_≡_, refl, sym, ap, _∙_, subst}
+use mathlib.Core.Bool.{Bool, true, false, not, _&&_}
+use mathlib.Core.List.{[]}
+use mathlib.Core.Logic.{_⊎_, ⊎-elim}
+use Prim.Native.Nat.{ℕ, zero, suc, _^_, _≤_, _<_}
+use native.Mathlib.Nat.{not-suc-le-zero}
 use native.Mathlib.Omega.{arith}
-use borrow.Author.Tests.{eqb-true, eqb-false, eq-eqb, ne-eqb}
+use borrow.Author.Tests.{eqb-true, eqb-false}
 use lib.Dec.{eqb}
 use lib.Pow.{pow-pos}
-use Rattle.sets.specs.Sets.{has, nobody, everyone, only, _∪_, _∩_, _∖_, empty, within, smaller, size}
+use Rattle.sets.specs.Sets.{has, nobody, everyone, only, _∪_, _∖_, within, smaller, size}
 use Rattle.sets.specs.Listing.{someSet, setsThat}
-use Rattle.sets.proofs.Bools.{either, clash, and-parts, and-both, not-holds, not-fails, bool-ext, fails}
-use Rattle.sets.proofs.Members.{In, Sub, has-nobody, has-below, ∪-left, ∪-right, ∪-cases, ∪-lt, ∖-in, ∖-out, none-in, only-in, only-out, everyone-lt, everyone-all, within-sub, sub-within, sub-antisym}
+use Rattle.sets.proofs.Bools.{either, clash, and-parts, and-both, not-holds, bool-ext, fails}
+use Rattle.sets.proofs.Members.{In, Sub, ∪-left, ∪-right, ∪-cases, ∪-lt, ∖-in, ∖-out, none-in, only-in, only-out, everyone-lt, everyone-all, within-sub, sub-within}
 use Rattle.sets.proofs.Size.{size-le}
 use Rattle.sets.proofs.Lowest.{lowest-first}
 use Rattle.sets.proofs.Listing.{Among, among-left, among-right, among-cases, someSet-at, at-someSet, setsThat-in, setsThat-out}
 use Rattle.sets.proofs.Order.{Ahead, Rising, rising-append, rising-same, setsThat-rise}
-use Rattle.meanings.specs.Quorums.{quorum, greatest, minimalQuorum, minimalQuorums}
-use Rattle.meanings.specs.Trees.{Tree, leaf, found, unsplit, fork, listed, foundIf, quorumTree, minimalTree, list}
+use Rattle.meanings.specs.Quorums.{quorum, minimalQuorum, minimalQuorums}
+use Rattle.meanings.specs.Trees.{Tree, leaf, unsplit, fork, listed, foundIf, quorumTree, minimalTree, list}
 use Rattle.theory.proofs.Quorum.{Monotone, Quorum, quorum-is, is-quorum, a-node}
 use Rattle.theory.proofs.Greatest.{greatest-has}
 use Rattle.theory.proofs.Walks.{finds, visits, Splits, maybe-splits, maybe-visits, maybe-found, found-maybe, list-all}
-use Rattle.theory.proofs.QuorumTree.{reach, choices, chosen, below, dry, dry-no, no-dry, fewer, below-lt, only-lt, choices-open, chosen-in, reach-cases, some-choice, Visit, pruned, dried, quorate, lost, parted, visit, tree-pruned, tree-dry, tree-quorum, tree-unsplit, tree-fork, tree-splits, tree-visits}
+use Rattle.theory.proofs.QuorumTree.{reach, choices, chosen, below, dry, dry-no, no-dry, fewer, below-lt, only-lt, choices-open, chosen-in, reach-cases, some-choice, Visit, pruned, dried, quorate, lost, parted, visit, tree-dry, tree-quorum, tree-unsplit, tree-fork, tree-splits, tree-visits}
 
 -- a set that lies within another and is not smaller is the same
 pub within-same : (n a b : ℕ) → a < 2 ^ n → Sub a b → smaller a b ≡ false → a ≡ b

@@ -1,18 +1,17 @@
 -- What it is to be a quorum, as facts about nodes; the union of two quorums is a quorum; and a quorum is still one when further
 -- nodes are counted out, as long as something of it is left. Only that satisfaction is monotone is used.
-use mathlib.Core.Path.{_≡_, refl, sym, ap, _∙_, subst}
+use mathlib.Core.Path.{_≡_, ap}
 use mathlib.Core.Bool.{Bool, true, false, not, _&&_, _||_}
-use mathlib.Core.Logic.{_⊎_, inl, inr, ⊎-elim}
+use mathlib.Core.Logic.{_⊎_, ⊎-elim}
 use Prim.Native.Nat.{ℕ, _^_, _<_}
 use borrow.Author.Tests.{eqb-false, ne-eqb}
-use lib.Dec.{eqb}
-use Rattle.sets.specs.Sets.{has, nobody, everyone, _∪_, _∩_, _∖_, empty, within, meets, each}
+use Rattle.sets.specs.Sets.{has, nobody, everyone, _∪_, _∖_, empty, within, meets, each}
 use Rattle.sets.specs.Listing.{allSets}
-use Rattle.sets.proofs.Bools.{either, clash, and-parts, and-both, not-holds, not-fails, or-cases, or-left, or-right, fails, holds}
-use Rattle.sets.proofs.Members.{In, Sub, has-everyone, has-below, ∪-left, ∪-right, ∪-cases, ∪-lt, ∩-in, ∩-out, ∖-in, ∖-out, ∖-lt, none-in, everyone-lt, within-sub, within-lt, sub-within, each-at, at-each, meets-at}
+use Rattle.sets.proofs.Bools.{either, clash, and-parts, and-both, not-holds, or-cases, or-left, or-right, fails}
+use Rattle.sets.proofs.Members.{In, Sub, has-everyone, has-below, ∪-left, ∪-right, ∪-cases, ∪-lt, ∖-in, ∖-out, ∖-lt, none-in, everyone-lt, within-sub, within-lt, sub-within, each-at, at-each}
 use Rattle.sets.proofs.Lowest.{lowest-in}
 use Rattle.sets.proofs.Listing.{allSets-at, at-allSets}
-use Rattle.meanings.specs.Quorums.{ground, quorum, intersecting, disjointQuorums}
+use Rattle.meanings.specs.Quorums.{ground, quorum, intersecting}
 
 -- a set that satisfies a node goes on satisfying it when it grows
 abbrev pub Monotone : (ℕ → ℕ → Bool) → Type 0

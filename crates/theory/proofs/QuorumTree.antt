@@ -1,25 +1,24 @@
 -- The tree of the verdict and of the minimal quorums, a visit at a time. A visit that comes to the split has a node to split on: were
 -- the greatest quorum in reach no more than c, c would be a quorum itself. The open nodes below it are fewer by that node, so the tree
 -- ends, and a deeper bound changes nothing.
-use mathlib.Core.Path.{_≡_, refl, sym, ap, ap₂, _∙_, subst}
-use mathlib.Core.Bool.{Bool, true, false, not, _&&_, _||_}
+use mathlib.Core.Path.{_≡_, sym, ap, ap₂, _∙_, subst}
+use mathlib.Core.Bool.{Bool, true, false, not, _||_}
 use mathlib.Core.Logic.{_⊎_, inl, inr, ⊎-elim}
-use Prim.Native.Nat.{ℕ, zero, suc, _+_, _*_, _^_, _≤_, _<_}
+use Prim.Native.Nat.{ℕ, zero, suc, _*_, _^_, _≤_, _<_}
 use native.Mathlib.Nat.{not-suc-le-zero, le-refl, pow-suc}
 use native.Mathlib.Omega.{arith}
 use borrow.Author.Tests.{eqb-true, eqb-false, eq-eqb, ne-eqb}
-use lib.Dec.{eqb}
 use lib.Pow.{pow-lt, pow-pos, pow-mono}
-use Rattle.sets.specs.Sets.{has, nobody, everyone, only, _∪_, _∩_, _∖_, empty, within, size, lowest}
-use Rattle.sets.proofs.Bools.{either, clash, or-fails, or-neither, not-fails, not-holds, fails}
-use Rattle.sets.proofs.Members.{In, Sub, has-only, ∪-left, ∪-right, ∪-cases, ∪-lt, ∖-in, ∖-out, ∖-lt, none-in, only-in, only-out, within-sub, sub-within, sub-antisym}
+use Rattle.sets.specs.Sets.{has, nobody, only, _∪_, _∖_, empty, within, size, lowest}
+use Rattle.sets.proofs.Bools.{either, clash, or-fails, or-neither, not-fails, fails}
+use Rattle.sets.proofs.Members.{In, Sub, ∪-cases, ∪-lt, ∖-in, ∖-out, ∖-lt, none-in, only-in, only-out, within-sub, sub-within, sub-antisym}
 use Rattle.sets.proofs.Size.{size-lt, size-le}
-use Rattle.sets.proofs.Lowest.{lowest-in, lowest-lt, lowest-first}
-use Rattle.meanings.specs.Quorums.{ground, quorum, greatest}
-use Rattle.meanings.specs.Trees.{Tree, leaf, found, unsplit, fork, quorumTree}
-use Rattle.theory.proofs.Quorum.{Monotone, Quorum, is-quorum, quorum-is}
-use Rattle.theory.proofs.Greatest.{greatest-lt, greatest-sub, greatest-itself, greatest-quorum}
-use Rattle.theory.proofs.Walks.{finds, visits, Splits}
+use Rattle.sets.proofs.Lowest.{lowest-in, lowest-lt}
+use Rattle.meanings.specs.Quorums.{quorum, greatest}
+use Rattle.meanings.specs.Trees.{Tree, leaf, unsplit, fork, quorumTree}
+use Rattle.theory.proofs.Quorum.{Monotone, Quorum, is-quorum}
+use Rattle.theory.proofs.Greatest.{greatest-lt, greatest-sub, greatest-quorum}
+use Rattle.theory.proofs.Walks.{visits, Splits}
 
 -- a single visit is within the bound
 pub few : (k : ℕ) → 2 ≤ 2 ^ suc k

@@ -2,18 +2,17 @@
 -- and what a last round leaves is empty or a quorum. A round that is not the last strikes a node and leaves one, so k nodes to
 -- start with take 1 to k rounds.
 use mathlib.Core.Path.{_≡_, refl, sym, ap, _∙_, subst}
-use mathlib.Core.Bool.{Bool, true, false, not, _&&_, _||_}
+use mathlib.Core.Bool.{Bool, true, false, _&&_}
 use mathlib.Core.Logic.{_⊎_, inl, inr, ⊎-elim}
-use Prim.Native.Nat.{ℕ, zero, suc, _+_, _^_, _≤_, _<_}
+use Prim.Native.Nat.{ℕ, zero, suc, _^_, _≤_, _<_}
 use native.Mathlib.Omega.{arith}
 use borrow.Author.Tests.{eqb-true, eqb-false, eq-eqb, ne-eqb}
 use lib.Dec.{eqb}
 use lib.Pow.{pow-pos}
-use Rattle.sets.specs.Sets.{has, nobody, everyone, _∪_, _∖_, empty, size, setOf}
-use Rattle.sets.proofs.Bools.{either, clash, and-parts, and-both, or-cases, or-fails, or-left, or-right, fails}
+use Rattle.sets.specs.Sets.{has, nobody, _∪_, _∖_, empty, size}
+use Rattle.sets.proofs.Bools.{either, and-parts, and-both, or-cases, or-fails, or-left, or-right, fails}
 use Rattle.sets.proofs.Members.{In, Sub, has-below, setOf-lt, setOf-in, setOf-out, none-in, ∖-in, ∖-out, ∖-lt}
-use Rattle.sets.proofs.Size.{le-or-lt, size-le, sub-size, sub-same, size-pos}
-use Rattle.sets.proofs.Lowest.{lowest-in}
+use Rattle.sets.proofs.Size.{le-or-lt, size-le, sub-same, size-pos}
 use Rattle.meanings.specs.Quorums.{greatest}
 use Rattle.meanings.specs.Rounds.{round, lastRound, roundsFrom, leftFrom, rounds, survivors}
 use Rattle.theory.proofs.Quorum.{Monotone, ∪-grows, Quorum, a-node}

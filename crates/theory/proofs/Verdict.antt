@@ -1,27 +1,26 @@
 -- The verdict's tree finds a pair exactly where two quorums have no node in common. Of two such quorums one, p, has at most half of
 -- the ground; the visits with c within p and p within c and r lead down to it: none of them is pruned or dry, and one that comes to a
 -- quorum c within p has the other outside it.
-use mathlib.Core.Path.{_≡_, refl, sym, ap, ap₂, _∙_, subst}
-use mathlib.Core.Bool.{Bool, true, false, not, _&&_, _||_}
-use mathlib.Core.List.{List, [], _∷_, _++_}
-use mathlib.Core.Logic.{_⊎_, inl, inr, ⊎-elim}
-use Prim.Native.Nat.{ℕ, zero, suc, _+_, _*_, _/_, _^_, _≤_, _<_}
-use native.Mathlib.Nat.{not-suc-le-zero, le-refl}
+use mathlib.Core.Path.{_≡_, refl, sym, ap, subst}
+use mathlib.Core.Bool.{Bool, true, false, not, _&&_}
+use mathlib.Core.List.{[]}
+use mathlib.Core.Logic.{_⊎_, ⊎-elim}
+use Prim.Native.Nat.{ℕ, zero, suc, _/_, _^_, _≤_, _<_}
+use native.Mathlib.Nat.{not-suc-le-zero}
 use native.Mathlib.Omega.{arith}
-use borrow.Author.Tests.{eqb-true, eqb-false, eq-eqb, ne-eqb, le-ltb}
-use lib.Dec.{eqb, ltb}
+use borrow.Author.Tests.{eqb-true, eq-eqb, le-ltb}
 use lib.Pow.{pow-pos}
-use Rattle.sets.specs.Sets.{has, nobody, everyone, only, _∪_, _∩_, _∖_, empty, within, meets, size}
-use Rattle.sets.proofs.Bools.{either, clash, and-parts, and-both, not-holds, not-fails, fails}
-use Rattle.sets.proofs.Members.{In, Sub, has-nobody, has-below, ∪-left, ∪-right, ∪-cases, ∪-lt, ∩-in, ∩-out, ∩-lt, ∖-in, ∖-out, ∖-lt, none-in, only-in, only-out, sub-antisym, meets-at}
+use Rattle.sets.specs.Sets.{has, nobody, only, _∪_, _∩_, _∖_, empty, meets, size}
+use Rattle.sets.proofs.Bools.{either, clash, and-both, not-fails, fails}
+use Rattle.sets.proofs.Members.{In, Sub, has-below, ∪-left, ∪-right, ∪-cases, ∪-lt, ∩-in, ∩-out, ∩-lt, ∖-in, ∖-out, none-in, only-in, only-out, sub-antisym}
 use Rattle.sets.proofs.Size.{le-or-lt, sub-size, apart-size, size-le}
 use Rattle.sets.proofs.Listing.{Among, among-left, among-right, among-cases}
 use Rattle.meanings.specs.Quorums.{ground, quorum, greatest, holdsQuorum, intersecting, disjointQuorums}
-use Rattle.meanings.specs.Trees.{Tree, leaf, found, unsplit, fork, Pair, Walk, hit, missed, stuck, foundIf, quorumTree, overHalf, pairAt, verdictTree, walk}
-use Rattle.theory.proofs.Quorum.{Monotone, Quorum, quorum-is, is-quorum, ground-lt, ground-in, ground-out, intersecting-is, is-intersecting, a-node}
-use Rattle.theory.proofs.Greatest.{greatest-lt, greatest-sub, greatest-has, greatest-quorum, holds-greatest, greatest-holds}
-use Rattle.theory.proofs.Walks.{finds, visits, Splits, maybe-splits, maybe-visits, maybe-found, found-maybe, Stops, at-end, at-find, walk-stops, walk-finds}
-use Rattle.theory.proofs.QuorumTree.{reach, choices, chosen, below, dry, dry-no, no-dry, fewer, below-lt, only-lt, reach-cases, some-choice, Visit, pruned, dried, quorate, lost, parted, visit, tree-pruned, tree-dry, tree-quorum, tree-unsplit, tree-fork, tree-splits, tree-visits}
+use Rattle.meanings.specs.Trees.{Tree, leaf, unsplit, fork, Pair, hit, missed, quorumTree, overHalf, pairAt, verdictTree, walk}
+use Rattle.theory.proofs.Quorum.{Monotone, Quorum, quorum-is, is-quorum, ground-lt, ground-in, intersecting-is, is-intersecting, a-node}
+use Rattle.theory.proofs.Greatest.{greatest-sub, greatest-has, greatest-quorum, holds-greatest, greatest-holds}
+use Rattle.theory.proofs.Walks.{finds, visits, Splits, maybe-splits, maybe-visits, maybe-found, found-maybe, Stops, at-end, at-find, walk-stops}
+use Rattle.theory.proofs.QuorumTree.{reach, choices, chosen, below, dry, no-dry, fewer, below-lt, only-lt, reach-cases, some-choice, Visit, pruned, dried, quorate, lost, parted, visit, tree-pruned, tree-dry, tree-quorum, tree-unsplit, tree-fork, tree-splits, tree-visits}
 
 -- two sets share no node exactly when they do not meet
 pub apart-none : (n p q : ℕ) → p < 2 ^ n → ((i : ℕ) → In p i → has q i ≡ false) → p ∩ q ≡ nobody

@@ -1,14 +1,14 @@
 -- Walking a tree of visits: what is found on the way, and how many visits there are. Where every visit that should split does, a
 -- walk of the whole tree lists all finds, and a walk that stops at the first find stops at one exactly when there is one.
-use mathlib.Core.Path.{_≡_, refl, sym, ap, ap₂, _∙_, subst}
+use mathlib.Core.Path.{_≡_, refl, ap, ap₂, subst}
 use mathlib.Core.Bool.{Bool, true, false}
 use mathlib.Core.List.{List, [], _∷_, _++_}
-use mathlib.Core.Logic.{_⊎_, inl, inr, ⊎-elim}
-use Prim.Native.Nat.{ℕ, zero, suc, _+_, _≤_, _<_}
+use mathlib.Core.Logic.{inl, inr}
+use Prim.Native.Nat.{ℕ, suc, _+_, _≤_}
 use native.Mathlib.Nat.{le-refl}
 use native.Mathlib.Omega.{arith}
 use Rattle.sets.proofs.Listing.{Among, among-left, among-right}
-use Rattle.meanings.specs.Trees.{Tree, leaf, found, unsplit, fork, Walk, hit, missed, stuck, Listing, listed, broken, foundIf, later, thenWalk, walk, thenList, list}
+use Rattle.meanings.specs.Trees.{Tree, leaf, found, unsplit, fork, hit, missed, listed, foundIf, thenWalk, walk, thenList, list}
 
 module _ {A : Type 0} where
   -- all finds in the order of the walk, and all visits

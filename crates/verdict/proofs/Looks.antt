@@ -1,5 +1,5 @@
 -- What a visit comes to, step by step of document 01: each way out of the steps before the split settles the walk below the visit.
-use mathlib.Core.Path.{_≡_, refl, sym, ap, ap₂, _∙_, subst}
+use mathlib.Core.Path.{_≡_, sym, ap, ap₂, _∙_, subst}
 use mathlib.Core.Bool.{Bool, true, false}
 use mathlib.Core.List.{List}
 use Prim.Native.Nat.{ℕ, _/_, _^_, _≤_, _<_}
@@ -11,12 +11,11 @@ use Rattle.sets.proofs.Size.{size-at}
 use Rattle.sets.proofs.Lowest.{lowest-at}
 use Rattle.meanings.specs.Table.{nodes, satisfied}
 use Rattle.meanings.specs.Quorums.{ground, quorum, greatest, holdsQuorum}
-use Rattle.meanings.specs.Trees.{Walk, hit, missed, stuck, foundIf, overHalf, pairAt, walk, thenWalk}
+use Rattle.meanings.specs.Trees.{hit, missed, stuck, foundIf, overHalf, pairAt, walk, thenWalk}
 use Rattle.theory.proofs.Greatest.{greatest-holds, holds-greatest}
 use Rattle.theory.proofs.QuorumTree.{choices, chosen, below, choices-lt, below-lt, fewer, tree-pruned, tree-dry, tree-quorum, tree-unsplit, tree-parts}
-use Rattle.branches.specs.declared.Visit.{Visit}
-use Rattle.branches.specs.Branches.{dry, reach, Waiter}
-use Rattle.verdict.specs.Search.{treeOf, Splitting}
+use Rattle.branches.specs.Branches.{dry}
+use Rattle.verdict.specs.Search.{treeOf}
 
 module _ (t : List ℕ) (d c r : ℕ) where
   abbrev n : ℕ

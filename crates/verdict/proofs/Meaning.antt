@@ -1,22 +1,21 @@
 -- What an answer of the verdict means, for a table whose satisfaction is monotone, as every table's is: yes exactly when all quorums of the
 -- rest intersect, no with two that do not, and stopped short exactly when the tree's walk is longer than the allowance.
-use mathlib.Core.Path.{_≡_, refl, sym, ap, _∙_, subst}
-use mathlib.Core.Bool.{Bool, true, false, cond}
-use mathlib.Core.List.{List, [], _∷_}
-use Prim.Native.Nat.{ℕ, suc, _+_, _^_, _≤_, _<_}
+use mathlib.Core.Path.{_≡_, sym, ap, _∙_, subst}
+use mathlib.Core.Bool.{Bool, true, false}
+use mathlib.Core.List.{List, []}
+use Prim.Native.Nat.{ℕ, suc, _^_, _≤_, _<_}
 use native.Mathlib.Nat.{zero-add}
 use native.Mathlib.Omega.{arith}
 use mathlib.Core.Logic.{⊎-elim}
 use Rattle.sets.proofs.Bools.{clash}
 use Rattle.sets.proofs.Size.{le-or-lt}
 use borrow.Author.Tests.{le-leb, lt-leb}
-use lib.Dec.{leb}
 use Rattle.sets.specs.Sets.{size}
 use Rattle.meanings.specs.Table.{nodes, satisfied}
 use Rattle.meanings.specs.Quorums.{ground, intersecting, disjointQuorums}
 use Rattle.meanings.specs.Trees.{Pair, Walk, hit, missed, stuck, verdictTree, walk}
 use Rattle.meanings.specs.Questions.{verdictReply, verdictSays as replySays}
-use Rattle.theory.proofs.Verdict.{Sound, Decided, all-meet, two-apart, decided, sound-disjoint}
+use Rattle.theory.proofs.Verdict.{Decided, all-meet, two-apart, decided, sound-disjoint}
 use Rattle.judge.proofs.Monotone.{satisfied-monotone}
 use Rattle.answers.specs.Said.{verdictSays}
 use Rattle.answers.specs.declared.Fault.{Fault}

@@ -1,5 +1,5 @@
 -- The ground, and what a part of it asks for the greatest quorum in it.
-use mathlib.Core.Path.{_≡_, refl, ap, _∙_, subst}
+use mathlib.Core.Path.{_≡_, ap, _∙_, subst}
 use mathlib.Core.List.{List}
 use Prim.Native.Nat.{ℕ, _^_, _<_}
 use Rattle.sets.specs.Sets.{nobody, everyone, _∖_}

@@ -1,7 +1,6 @@
 // Do all quorums intersect? The search for two quorums with no node in common (document 01, 'The search trees', Verdict), within an
 // allowance of visits.
 ghost use mathlib.Core.Path.{_≡_};
-ghost use Prim.Native.Nat.{ℕ};
 ghost use Rattle.verdict.specs.Search.{Visiting, Looked, within, treeOf};
 ghost use Rattle.meanings.specs.Table.{nodes as nodesOf, satisfied};
 ghost use Rattle.meanings.specs.Faults.{check, sound};

@@ -1,8 +1,8 @@
 -- What a visit hands to the two below its split, and what the first visit of a search knows.
-use mathlib.Core.Path.{_≡_, refl, sym, ap, ap₂, _∙_, subst}
-use mathlib.Core.Bool.{Bool, true, false, not}
+use mathlib.Core.Path.{_≡_, refl, sym, ap, _∙_, subst}
+use mathlib.Core.Bool.{Bool, true, false}
 use mathlib.Core.List.{List}
-use mathlib.Core.Logic.{_⊎_, inl, inr, ⊎-elim}
+use mathlib.Core.Logic.{_⊎_, ⊎-elim}
 use Prim.Native.Nat.{ℕ, _^_, _<_}
 use lib.Pow.{pow-pos, pow-lt}
 use Rattle.sets.specs.Sets.{has, nobody, everyone, only, _∪_, _∩_, _∖_, within}
@@ -10,7 +10,7 @@ use Rattle.sets.proofs.Bools.{either, clash, fails}
 use Rattle.sets.proofs.Members.{In, Sub, has-nobody, has-below, has-everyone, everyone-lt, ∪-left, ∪-right, ∪-cases, ∪-lt, ∩-out, ∖-in, ∖-out, ∖-lt, only-in, only-out, none-in, sub-antisym, sub-within, within-sub}
 use Rattle.meanings.specs.Table.{nodes, satisfied}
 use Rattle.meanings.specs.Quorums.{quorum, greatest, holdsQuorum}
-use Rattle.theory.proofs.Quorum.{Quorum, quorum-is, is-quorum, a-node}
+use Rattle.theory.proofs.Quorum.{quorum-is, is-quorum, a-node}
 use Rattle.theory.proofs.Greatest.{greatest-lt, greatest-sub, greatest-from, greatest-has, greatest-grows, greatest-quorum, greatest-holds, holds-greatest}
 use Rattle.judge.proofs.Monotone.{satisfied-monotone}
 use Rattle.lasting.specs.Lasting.{holding, Striking}

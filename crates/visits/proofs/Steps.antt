@@ -2,17 +2,16 @@
 use mathlib.Core.Path.{_≡_, refl, sym, ap, ap₂, _∙_, subst}
 use mathlib.Core.Bool.{Bool, true, false, not, cond}
 use mathlib.Core.List.{List}
-use mathlib.Core.Logic.{_⊎_, inl, inr, ⊎-elim}
-use Prim.Native.Nat.{ℕ, suc, _^_, _≤_, _<_}
+use Prim.Native.Nat.{ℕ, _^_, _≤_, _<_}
 use native.Mathlib.Omega.{arith}
-use borrow.Author.Tests.{eqb-true, eqb-false, eq-eqb, ne-eqb}
-use Rattle.sets.specs.Sets.{has, nobody, everyone, only, _∪_, _∩_, _∖_, empty, within, size, lowest, each}
-use Rattle.sets.proofs.Bools.{either, clash, fails, or-left, or-right, or-neither}
-use Rattle.sets.proofs.Members.{In, Sub, has-below, ∪-lt, ∩-lt, ∩-out, ∖-lt, within-sub}
+use borrow.Author.Tests.{eqb-true, eqb-false}
+use Rattle.sets.specs.Sets.{nobody, everyone, only, _∪_, _∩_, _∖_, empty, size, lowest}
+use Rattle.sets.proofs.Bools.{fails}
+use Rattle.sets.proofs.Members.{In, ∩-lt, ∖-lt}
 use Rattle.sets.proofs.Size.{size-at}
 use Rattle.sets.proofs.Lowest.{lowest-in, lowest-at}
 use Rattle.meanings.specs.Table.{nodes, satisfied}
-use Rattle.meanings.specs.Quorums.{quorum, greatest, holdsQuorum, minimalQuorum, blockingSet, minimalBlocking}
+use Rattle.meanings.specs.Quorums.{quorum, holdsQuorum, minimalQuorum, blockingSet, minimalBlocking}
 use Rattle.meanings.specs.Trees.{Tree, leaf, found, unsplit, fork, foundIf}
 use Rattle.theory.proofs.Greatest.{greatest-holds, holds-greatest}
 use Rattle.theory.proofs.QuorumTree as Q

@@ -4,24 +4,17 @@ use mathlib.Core.Path.{_≡_, refl, sym, ap, ap₂, _∙_, subst}
 use mathlib.Core.Bool.{Bool, true, false, cond}
 use mathlib.Core.List.{List, [], _∷_, _++_}
 use mathlib.Core.Logic.{_⊎_, inl, inr}
-use Prim.Native.Nat.{ℕ, suc, _+_, _^_, _≤_, _<_}
+use Prim.Native.Nat.{ℕ, suc, _+_, _≤_, _<_}
 use native.Mathlib.Nat.{le-refl, add-zero}
 use native.Mathlib.Omega.{arith}
 use borrow.Author.Tests.{leb-true, leb-false, le-leb, lt-leb}
 use lib.Dec.{leb}
 use lib.ListN.{length, set, length-append}
 use lib.Seq.{sets}
-use lib.Pow.{pow-lt}
-use Rattle.sets.specs.Sets.{nobody, only, _∪_, _∖_, size, lowest}
-use Rattle.sets.proofs.Members.{∪-lt, ∖-lt}
-use Rattle.sets.proofs.Size.{size-at}
-use Rattle.sets.proofs.Lowest.{lowest-at, lowest-lt}
 use Rattle.meanings.specs.Trees.{Tree, leaf, found, unsplit, fork, Listing, listed, broken, thenList, list}
 use Rattle.meanings.specs.Questions.{listPuts}
 use Rattle.answers.specs.declared.Listed.{Listed}
 use Rattle.answers.specs.declared.Listed.the-variants.{Sets, Short, Spent, Unsplit, Bad}
-use Rattle.visits.specs.declared.Sought.{Sought}
-use Rattle.visits.specs.Visits.{treeAt, Splits}
 use Rattle.walks.specs.Walked.{answered, Walked}
 
 -- ---- a tree has a visit, and no more finds than visits

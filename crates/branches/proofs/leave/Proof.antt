@@ -1,5 +1,4 @@
 -- Without the node, what lasts of the greatest quorum is in reach.
-use mathlib.Core.Path.{_≡_}
 use Rattle.branches.proofs.Laws.{node-lt, strikes, left-below}
 use Rattle.branches.proofs.leave.Statement.{statement}
 use Rattle.branches.proofs.leave.Tie as tie

@@ -1,10 +1,8 @@
 -- The tests in their order: nothing in reach, a set that has not grown, nodes that are still due.
-use mathlib.Core.Path.{_≡_}
 use mathlib.Core.Logic.{⊎-elim, inl, inr}
 use borrow.Author.Tests.{eqb-true, eqb-false}
 use Rattle.sets.proofs.Bools.{not-holds, not-fails}
 use Rattle.branches.proofs.Laws.{is-dry, not-dry, is-quorum, still-waits}
-use borrow.Author.Needs.{needs}
 use Rattle.branches.proofs.meet.Statement.{statement}
 use Rattle.branches.proofs.meet.Tie as tie
 

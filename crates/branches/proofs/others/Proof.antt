@@ -1,5 +1,5 @@
 -- The greatest quorum without the chosen nodes and without v.
-use mathlib.Core.Path.{_≡_, ap₂, _∙_}
+use mathlib.Core.Path.{ap₂, _∙_}
 use Prim.Native.Nat.{ℕ}
 use Rattle.sets.specs.Sets.{_∖_}
 use borrow.Author.Needs.{needs}

@@ -1,5 +1,5 @@
 -- Every node is judged for the greatest quorum among the open ones.
-use mathlib.Core.Path.{_≡_, sym, ap, _∙_}
+use mathlib.Core.Path.{sym, ap, _∙_}
 use mathlib.Core.Bool.{true}
 use Prim.Native.Nat.{ℕ}
 use Rattle.sets.specs.Sets.{nobody}

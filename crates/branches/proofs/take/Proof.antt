@@ -1,5 +1,4 @@
 -- With the node chosen, the greatest quorum in reach is the same.
-use mathlib.Core.Path.{_≡_}
 use Rattle.branches.proofs.Laws.{node-lt, taken-below}
 use Rattle.branches.proofs.take.Statement.{statement}
 use Rattle.branches.proofs.take.Tie as tie

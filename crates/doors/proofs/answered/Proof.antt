@@ -3,8 +3,6 @@ use Rattle.meanings.specs.Replies.{valueIn}
 use borrow.Author.Needs.{needs}
 use Rattle.doors.proofs.answered.Statement.{statement}
 use Rattle.doors.proofs.answered.Tie as tie
-use Rattle.doors.proofs.answered.Reads as reads
-use Rattle.doors.proofs.answered.Lts as lts
 
 returns : tie.Need-returns
 unfolding valueIn

@@ -3,8 +3,6 @@ use Rattle.meanings.specs.Replies.{valueIn}
 use borrow.Author.Needs.{needs}
 use Rattle.doors.proofs.bare.Statement.{statement}
 use Rattle.doors.proofs.bare.Tie as tie
-use Rattle.doors.proofs.bare.Reads as reads
-use Rattle.doors.proofs.bare.Lts as lts
 
 returns : tie.Need-returns
 unfolding valueIn

@@ -1,13 +1,9 @@
 -- The struct shows what the operation's answer says, and the buffer is as the operation leaves it.
 use mathlib.Core.Path.{subst}
-use Rattle.doors.specs.Doors.{Shows, Fills}
+use Rattle.doors.specs.Doors.{Shows}
 use borrow.Author.Needs.{needs}
 use Rattle.doors.proofs.breezedrum_blocking.Statement.{statement}
 use Rattle.doors.proofs.breezedrum_blocking.Tie as tie
-use Rattle.doors.proofs.breezedrum_blocking.Reads as reads
-use Rattle.doors.proofs.breezedrum_blocking.Lts as lts
-use Rattle.doors.proofs.of_listed.Reads as of-listed-reads
-use Rattle.lists.proofs.blocking_sets.Reads as blocking-sets-reads
 
 blocking-sets-requires : tie.Need-blocking-sets-requires
 blocking-sets-requires c κs = search needs

@@ -4,10 +4,6 @@ use Rattle.doors.specs.Doors.{Shows}
 use borrow.Author.Needs.{needs}
 use Rattle.doors.proofs.breezedrum_blocks.Statement.{statement}
 use Rattle.doors.proofs.breezedrum_blocks.Tie as tie
-use Rattle.doors.proofs.breezedrum_blocks.Reads as reads
-use Rattle.doors.proofs.breezedrum_blocks.Lts as lts
-use Rattle.doors.proofs.of_judged.Reads as of-judged-reads
-use Rattle.quorums.proofs.blocks_node.Reads as blocks-node-reads
 
 blocks-node-requires : tie.Need-blocks-node-requires
 blocks-node-requires c κs = search needs

@@ -4,10 +4,6 @@ use Rattle.doors.specs.Doors.{Shows}
 use borrow.Author.Needs.{needs}
 use Rattle.doors.proofs.breezedrum_check.Statement.{statement}
 use Rattle.doors.proofs.breezedrum_check.Tie as tie
-use Rattle.doors.proofs.breezedrum_check.Reads as reads
-use Rattle.doors.proofs.breezedrum_check.Lts as lts
-use Rattle.doors.proofs.of_checked.Reads as of-checked-reads
-use Rattle.faults.proofs.check_table.Reads as check-table-reads
 
 check-table-requires : tie.Need-check-table-requires
 check-table-requires c κs = search needs

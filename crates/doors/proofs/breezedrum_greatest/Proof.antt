@@ -4,10 +4,6 @@ use Rattle.doors.specs.Doors.{Shows}
 use borrow.Author.Needs.{needs}
 use Rattle.doors.proofs.breezedrum_greatest.Statement.{statement}
 use Rattle.doors.proofs.breezedrum_greatest.Tie as tie
-use Rattle.doors.proofs.breezedrum_greatest.Reads as reads
-use Rattle.doors.proofs.breezedrum_greatest.Lts as lts
-use Rattle.doors.proofs.of_greatest.Reads as of-greatest-reads
-use Rattle.quorums.proofs.greatest_quorum.Reads as greatest-quorum-reads
 
 greatest-quorum-requires : tie.Need-greatest-quorum-requires
 greatest-quorum-requires c κs = search needs

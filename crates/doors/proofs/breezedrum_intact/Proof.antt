@@ -4,10 +4,6 @@ use Rattle.doors.specs.Doors.{Shows}
 use borrow.Author.Needs.{needs}
 use Rattle.doors.proofs.breezedrum_intact.Statement.{statement}
 use Rattle.doors.proofs.breezedrum_intact.Tie as tie
-use Rattle.doors.proofs.breezedrum_intact.Reads as reads
-use Rattle.doors.proofs.breezedrum_intact.Lts as lts
-use Rattle.doors.proofs.of_intact.Reads as of-intact-reads
-use Rattle.intact.proofs.intact_nodes.Reads as intact-nodes-reads
 
 intact-nodes-requires : tie.Need-intact-nodes-requires
 intact-nodes-requires c κs = search needs

@@ -1,13 +1,9 @@
 -- The struct shows what the operation's answer says, and the buffer is as the operation leaves it.
 use mathlib.Core.Path.{subst}
-use Rattle.doors.specs.Doors.{Shows, Fills}
+use Rattle.doors.specs.Doors.{Shows}
 use borrow.Author.Needs.{needs}
 use Rattle.doors.proofs.breezedrum_minimal.Statement.{statement}
 use Rattle.doors.proofs.breezedrum_minimal.Tie as tie
-use Rattle.doors.proofs.breezedrum_minimal.Reads as reads
-use Rattle.doors.proofs.breezedrum_minimal.Lts as lts
-use Rattle.doors.proofs.of_listed.Reads as of-listed-reads
-use Rattle.lists.proofs.minimal_quorums.Reads as minimal-quorums-reads
 
 minimal-quorums-requires : tie.Need-minimal-quorums-requires
 minimal-quorums-requires c κs = search needs

@@ -4,10 +4,6 @@ use Rattle.doors.specs.Doors.{Shows}
 use borrow.Author.Needs.{needs}
 use Rattle.doors.proofs.breezedrum_quorum.Statement.{statement}
 use Rattle.doors.proofs.breezedrum_quorum.Tie as tie
-use Rattle.doors.proofs.breezedrum_quorum.Reads as reads
-use Rattle.doors.proofs.breezedrum_quorum.Lts as lts
-use Rattle.doors.proofs.of_judged.Reads as of-judged-reads
-use Rattle.quorums.proofs.is_quorum.Reads as is-quorum-reads
 
 is-quorum-requires : tie.Need-is-quorum-requires
 is-quorum-requires c κs = search needs

@@ -1,13 +1,9 @@
 -- The struct shows what the operation's answer says, and the buffer is as the operation leaves it.
 use mathlib.Core.Path.{subst}
-use Rattle.doors.specs.Doors.{Shows, Fills}
+use Rattle.doors.specs.Doors.{Shows}
 use borrow.Author.Needs.{needs}
 use Rattle.doors.proofs.breezedrum_read_sheet.Statement.{statement}
 use Rattle.doors.proofs.breezedrum_read_sheet.Tie as tie
-use Rattle.doors.proofs.breezedrum_read_sheet.Reads as reads
-use Rattle.doors.proofs.breezedrum_read_sheet.Lts as lts
-use Rattle.doors.proofs.of_read.Reads as of-read-reads
-use Rattle.sheets.proofs.read_sheet.Reads as read-sheet-reads
 
 read-sheet-requires : tie.Need-read-sheet-requires
 read-sheet-requires c κs = search needs

@@ -4,10 +4,6 @@ use Rattle.doors.specs.Doors.{Shows}
 use borrow.Author.Needs.{needs}
 use Rattle.doors.proofs.breezedrum_verdict.Statement.{statement}
 use Rattle.doors.proofs.breezedrum_verdict.Tie as tie
-use Rattle.doors.proofs.breezedrum_verdict.Reads as reads
-use Rattle.doors.proofs.breezedrum_verdict.Lts as lts
-use Rattle.doors.proofs.of_verdict.Reads as of-verdict-reads
-use Rattle.verdict.proofs.intersect.Reads as intersect-reads
 
 intersect-requires : tie.Need-intersect-requires
 intersect-requires c κs = search needs

@@ -1,13 +1,9 @@
 -- The struct shows what the operation's answer says, and the buffer is as the operation leaves it.
 use mathlib.Core.Path.{subst}
-use Rattle.doors.specs.Doors.{Shows, Fills}
+use Rattle.doors.specs.Doors.{Shows}
 use borrow.Author.Needs.{needs}
 use Rattle.doors.proofs.breezedrum_write_sheet.Statement.{statement}
 use Rattle.doors.proofs.breezedrum_write_sheet.Tie as tie
-use Rattle.doors.proofs.breezedrum_write_sheet.Reads as reads
-use Rattle.doors.proofs.breezedrum_write_sheet.Lts as lts
-use Rattle.doors.proofs.of_wrote.Reads as of-wrote-reads
-use Rattle.sheets.proofs.write_sheet.Reads as write-sheet-reads
 
 write-sheet-requires : tie.Need-write-sheet-requires
 write-sheet-requires c κs = search needs

@@ -3,8 +3,6 @@ use Rattle.meanings.specs.Replies.{valueIn}
 use borrow.Author.Needs.{needs}
 use Rattle.doors.proofs.counted.Statement.{statement}
 use Rattle.doors.proofs.counted.Tie as tie
-use Rattle.doors.proofs.counted.Reads as reads
-use Rattle.doors.proofs.counted.Lts as lts
 
 returns : tie.Need-returns
 unfolding valueIn

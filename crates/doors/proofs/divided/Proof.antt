@@ -3,8 +3,6 @@ use Rattle.meanings.specs.Replies.{valueIn}
 use borrow.Author.Needs.{needs}
 use Rattle.doors.proofs.divided.Statement.{statement}
 use Rattle.doors.proofs.divided.Tie as tie
-use Rattle.doors.proofs.divided.Reads as reads
-use Rattle.doors.proofs.divided.Lts as lts
 
 returns : tie.Need-returns
 unfolding valueIn

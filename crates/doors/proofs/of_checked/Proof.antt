@@ -6,10 +6,6 @@ use Rattle.doors.specs.Doors.{Shows}
 use borrow.Author.Needs.{needs}
 use Rattle.doors.proofs.of_checked.Statement.{statement}
 use Rattle.doors.proofs.of_checked.Tie as tie
-use Rattle.doors.proofs.of_checked.Reads as reads
-use Rattle.doors.proofs.of_checked.Lts as lts
-use Rattle.doors.proofs.of_fault.Reads as of-fault-reads
-use Rattle.doors.proofs.sound.Reads as sound-reads
 
 enum-known-c : tie.Need-enum-known-c
 enum-known-c c = search needs

@@ -6,9 +6,6 @@ use Rattle.doors.specs.Doors.{Shows}
 use borrow.Author.Needs.{needs}
 use Rattle.doors.proofs.of_fault.Statement.{statement}
 use Rattle.doors.proofs.of_fault.Tie as tie
-use Rattle.doors.proofs.of_fault.Reads as reads
-use Rattle.doors.proofs.of_fault.Lts as lts
-use Rattle.doors.proofs.refusal.Reads as refusal-reads
 
 enum-known-f : tie.Need-enum-known-f
 enum-known-f c = search needs

@@ -6,11 +6,6 @@ use Rattle.doors.specs.Doors.{Shows}
 use borrow.Author.Needs.{needs}
 use Rattle.doors.proofs.of_greatest.Statement.{statement}
 use Rattle.doors.proofs.of_greatest.Tie as tie
-use Rattle.doors.proofs.of_greatest.Reads as reads
-use Rattle.doors.proofs.of_greatest.Lts as lts
-use Rattle.doors.proofs.bare.Reads as bare-reads
-use Rattle.doors.proofs.of_fault.Reads as of-fault-reads
-use Rattle.doors.proofs.set_in.Reads as set-in-reads
 
 enum-known-g : tie.Need-enum-known-g
 enum-known-g c = search needs

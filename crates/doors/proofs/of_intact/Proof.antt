@@ -6,13 +6,6 @@ use Rattle.doors.specs.Doors.{Shows}
 use borrow.Author.Needs.{needs}
 use Rattle.doors.proofs.of_intact.Statement.{statement}
 use Rattle.doors.proofs.of_intact.Tie as tie
-use Rattle.doors.proofs.of_intact.Reads as reads
-use Rattle.doors.proofs.of_intact.Lts as lts
-use Rattle.doors.proofs.bare.Reads as bare-reads
-use Rattle.doors.proofs.divided.Reads as divided-reads
-use Rattle.doors.proofs.of_fault.Reads as of-fault-reads
-use Rattle.doors.proofs.set_after.Reads as set-after-reads
-use Rattle.doors.proofs.spent.Reads as spent-reads
 
 enum-known-i : tie.Need-enum-known-i
 enum-known-i c = search needs

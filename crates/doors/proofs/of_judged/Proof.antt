@@ -6,11 +6,6 @@ use Rattle.doors.specs.Doors.{Shows}
 use borrow.Author.Needs.{needs}
 use Rattle.doors.proofs.of_judged.Statement.{statement}
 use Rattle.doors.proofs.of_judged.Tie as tie
-use Rattle.doors.proofs.of_judged.Reads as reads
-use Rattle.doors.proofs.of_judged.Lts as lts
-use Rattle.doors.proofs.answered.Reads as answered-reads
-use Rattle.doors.proofs.bare.Reads as bare-reads
-use Rattle.doors.proofs.of_fault.Reads as of-fault-reads
 
 enum-told : tie.Need-enum-told
 enum-told c = search needs

@@ -6,13 +6,6 @@ use Rattle.doors.specs.Doors.{Shows}
 use borrow.Author.Needs.{needs}
 use Rattle.doors.proofs.of_listed.Statement.{statement}
 use Rattle.doors.proofs.of_listed.Tie as tie
-use Rattle.doors.proofs.of_listed.Reads as reads
-use Rattle.doors.proofs.of_listed.Lts as lts
-use Rattle.doors.proofs.bare.Reads as bare-reads
-use Rattle.doors.proofs.counted.Reads as counted-reads
-use Rattle.doors.proofs.of_fault.Reads as of-fault-reads
-use Rattle.doors.proofs.sets_after.Reads as sets-after-reads
-use Rattle.doors.proofs.spent.Reads as spent-reads
 
 enum-known-l : tie.Need-enum-known-l
 enum-known-l c = search needs

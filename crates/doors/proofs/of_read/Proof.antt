@@ -6,11 +6,6 @@ use Rattle.doors.specs.Doors.{Shows}
 use borrow.Author.Needs.{needs}
 use Rattle.doors.proofs.of_read.Statement.{statement}
 use Rattle.doors.proofs.of_read.Tie as tie
-use Rattle.doors.proofs.of_read.Reads as reads
-use Rattle.doors.proofs.of_read.Lts as lts
-use Rattle.doors.proofs.counted.Reads as counted-reads
-use Rattle.doors.proofs.of_fault.Reads as of-fault-reads
-use Rattle.doors.proofs.refusal.Reads as refusal-reads
 
 enum-known-read : tie.Need-enum-known-read
 enum-known-read c = search needs

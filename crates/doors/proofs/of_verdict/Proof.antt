@@ -6,13 +6,6 @@ use Rattle.doors.specs.Doors.{Shows}
 use borrow.Author.Needs.{needs}
 use Rattle.doors.proofs.of_verdict.Statement.{statement}
 use Rattle.doors.proofs.of_verdict.Tie as tie
-use Rattle.doors.proofs.of_verdict.Reads as reads
-use Rattle.doors.proofs.of_verdict.Lts as lts
-use Rattle.doors.proofs.bare.Reads as bare-reads
-use Rattle.doors.proofs.no_after.Reads as no-after-reads
-use Rattle.doors.proofs.of_fault.Reads as of-fault-reads
-use Rattle.doors.proofs.spent.Reads as spent-reads
-use Rattle.doors.proofs.yes_after.Reads as yes-after-reads
 
 enum-known-v : tie.Need-enum-known-v
 enum-known-v c = search needs

@@ -6,10 +6,6 @@ use Rattle.doors.specs.Doors.{Shows}
 use borrow.Author.Needs.{needs}
 use Rattle.doors.proofs.of_wrote.Statement.{statement}
 use Rattle.doors.proofs.of_wrote.Tie as tie
-use Rattle.doors.proofs.of_wrote.Reads as reads
-use Rattle.doors.proofs.of_wrote.Lts as lts
-use Rattle.doors.proofs.counted.Reads as counted-reads
-use Rattle.doors.proofs.of_fault.Reads as of-fault-reads
 
 enum-known-w : tie.Need-enum-known-w
 enum-known-w c = search needs

@@ -3,8 +3,6 @@ use Rattle.meanings.specs.Replies.{valueIn}
 use borrow.Author.Needs.{needs}
 use Rattle.doors.proofs.refusal.Statement.{statement}
 use Rattle.doors.proofs.refusal.Tie as tie
-use Rattle.doors.proofs.refusal.Reads as reads
-use Rattle.doors.proofs.refusal.Lts as lts
 
 returns : tie.Need-returns
 unfolding valueIn

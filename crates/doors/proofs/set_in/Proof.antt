@@ -3,8 +3,6 @@ use Rattle.meanings.specs.Replies.{valueIn}
 use borrow.Author.Needs.{needs}
 use Rattle.doors.proofs.set_in.Statement.{statement}
 use Rattle.doors.proofs.set_in.Tie as tie
-use Rattle.doors.proofs.set_in.Reads as reads
-use Rattle.doors.proofs.set_in.Lts as lts
 
 returns : tie.Need-returns
 unfolding valueIn

@@ -3,8 +3,6 @@ use Rattle.meanings.specs.Replies.{valueIn}
 use borrow.Author.Needs.{needs}
 use Rattle.doors.proofs.sound.Statement.{statement}
 use Rattle.doors.proofs.sound.Tie as tie
-use Rattle.doors.proofs.sound.Reads as reads
-use Rattle.doors.proofs.sound.Lts as lts
 
 returns : tie.Need-returns
 unfolding valueIn

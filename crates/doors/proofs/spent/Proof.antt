@@ -3,8 +3,6 @@ use Rattle.meanings.specs.Replies.{valueIn}
 use borrow.Author.Needs.{needs}
 use Rattle.doors.proofs.spent.Statement.{statement}
 use Rattle.doors.proofs.spent.Tie as tie
-use Rattle.doors.proofs.spent.Reads as reads
-use Rattle.doors.proofs.spent.Lts as lts
 
 returns : tie.Need-returns
 unfolding valueIn

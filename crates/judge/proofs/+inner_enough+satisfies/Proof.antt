@@ -2,17 +2,16 @@
 -- and what is still to count from here is what there is to count from the start; it stops where they are enough.
 use native.Mathlib.Omega.{arith}
 use native.Mathlib.Numerals.{add-one}
-use mathlib.Core.Path.{_≡_, refl, sym, ap, ap₂, _∙_}
-use mathlib.Core.Bool.{Bool, true, false}
+use mathlib.Core.Path.{_≡_, sym, ap, ap₂, _∙_}
+use mathlib.Core.Bool.{Bool, false}
 use mathlib.Core.Logic.{⊎-elim}
 use borrow.Author.Tests.{le-leb, lt-leb}
 use lib.Dec.{leb}
-use Rattle.sets.specs.Sets.{size, _∩_}
-use Rattle.meanings.specs.Table.{records, level, threshold, members, satisfies as satisfiesAt}
+use Rattle.meanings.specs.Table.{records, level, threshold, satisfies as satisfiesAt}
 use Rattle.tables.proofs.Runs.{innerFrom, from-end, from-stop, from-hit, from-miss, from-deeper}
 use Rattle.tables.proofs.Sound.{record-in, sound-table}
 use Rattle.judge.proofs.Laws.{judged-early, judged-short, judged-more, judged-enough, judged-flat, wanted-more}
-use Prim.Native.Nat.{ℕ, _<_, _≤_, _+_, _-_, _*_, _/_}
+use Prim.Native.Nat.{ℕ, _<_, _≤_, _+_, _-_, _*_}
 use borrow.Fn.Kinds.{In}
 use borrow.Fn.PlainCycle.{Measures, is, falls, and}
 use Rattle.judge.proofs.satisfies.Reads as satisfies
@@ -26,7 +25,6 @@ use Rattle.judge.proofs.enough.Reads as enough-reads
 use Rattle.judge.proofs.deeper.Reads as deeper-reads
 use Rattle.tables.proofs.level.Reads as level-reads
 use Rattle.tables.proofs.threshold.Reads as threshold-reads
-use borrow.Author.Needs.{needs}
 use Rattle.judge.proofs.+inner_enough+satisfies.{statement}
 use Rattle.judge.proofs.+inner_enough+satisfies.Tie.{close}
 

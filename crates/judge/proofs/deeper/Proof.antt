@@ -1,12 +1,10 @@
 -- The walk over the inner sets ends at once: no record is left, or the next one is not below this.
 use native.Mathlib.Omega.{arith}
-use mathlib.Core.Path.{_≡_}
-use Prim.Native.Nat.{ℕ, _+_, _≤_}
+use Prim.Native.Nat.{_+_, _≤_}
 use borrow.Author.Tests.{ltb-false}
 use Rattle.meanings.specs.Table.{records, level}
 use Rattle.tables.proofs.Runs.{from-end, from-stop}
 use Rattle.tables.proofs.Sound.{record-in, sound-table}
-use borrow.Author.Needs.{needs}
 use Rattle.judge.proofs.deeper.Statement.{statement}
 use Rattle.judge.proofs.deeper.Tie as tie
 

@@ -1,5 +1,5 @@
 -- The threshold against the count.
-use mathlib.Core.Path.{_≡_, ap₂}
+use mathlib.Core.Path.{ap₂}
 use lib.Dec.{leb}
 use Rattle.tables.proofs.Sound.{record-in}
 use Rattle.judge.proofs.enough.Statement.{statement}

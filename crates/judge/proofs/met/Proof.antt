@@ -1,15 +1,11 @@
 -- The count of the members of r that are in u.
-use mathlib.Core.Path.{_≡_, ap, _∙_}
+use mathlib.Core.Path.{ap, _∙_}
 use Prim.Native.Nat.{ℕ}
 use Rattle.sets.specs.Sets.{size, _∩_}
 use Rattle.tables.proofs.Sound.{record-in}
 use borrow.Author.Needs.{needs}
 use Rattle.judge.proofs.met.Statement.{statement}
 use Rattle.judge.proofs.met.Tie as tie
-use Rattle.judge.proofs.met.Reads as reads
-use Rattle.judge.proofs.met.Lts as lts
-use Rattle.sets.proofs.count.Reads as count-reads
-use Rattle.tables.proofs.members.Reads as members-reads
 
 -- src/lib.rt:16:17
 members-requires : tie.Need-members-requires

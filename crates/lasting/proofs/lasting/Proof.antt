@@ -1,8 +1,6 @@
 -- Those present keep the greatest quorum that was asked for: nodes judged satisfied are no longer left to judge, unsatisfied ones are
 -- struck, and then those they touch are left to judge.
-use native.Mathlib.Omega.{arith}
 use mathlib.Core.Path.{_≡_, refl, sym, ap, ap₂, _∙_, subst}
-use mathlib.Core.Bool.{true, false}
 use Prim.Native.Nat.{ℕ, _<_}
 use Rattle.sets.specs.Sets.{_∪_, _∩_, _∖_}
 use Rattle.sets.proofs.Members.{In}

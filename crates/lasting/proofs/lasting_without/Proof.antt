@@ -1,5 +1,5 @@
 -- Of a quorum only those whom the struck node touches can be unsatisfied without it.
-use mathlib.Core.Path.{_≡_, sym, ap, ap₂, _∙_, subst}
+use mathlib.Core.Path.{_≡_, ap, _∙_}
 use Prim.Native.Nat.{ℕ, _+_, _*_, _<_}
 use lib.ListN.{length}
 use Rattle.sets.specs.Sets.{only, _∩_, _∖_}

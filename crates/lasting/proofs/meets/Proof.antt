@@ -7,7 +7,6 @@ use Rattle.meanings.specs.Table.{records, satisfies, satisfied}
 use Rattle.judge.proofs.Laws.{judged-enough}
 use Rattle.plans.specs.Plans.{likeAt}
 use Rattle.lasting.proofs.Laws.{in-plan}
-use borrow.Author.Needs.{needs}
 use Rattle.lasting.proofs.meets.Statement.{statement}
 use Rattle.lasting.proofs.meets.Tie as tie
 

@@ -2,7 +2,7 @@
 use native.Mathlib.Omega.{arith}
 use mathlib.Core.Path.{_≡_, sym, subst}
 use Prim.Native.Nat.{ℕ, _<_, _^_}
-use Rattle.sets.specs.Sets.{has, nobody, _∩_, lowest}
+use Rattle.sets.specs.Sets.{nobody, _∩_, lowest}
 use Rattle.sets.proofs.Members.{In, has-below, ∩-out, ∩-lt}
 use Rattle.sets.proofs.Lowest.{lowest-in}
 use borrow.Author.Needs.{needs}

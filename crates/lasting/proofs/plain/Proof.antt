@@ -1,5 +1,5 @@
 -- Every node is due, and none has to stay.
-use mathlib.Core.Path.{_≡_, refl, sym, _∙_}
+use mathlib.Core.Path.{sym, _∙_}
 use Rattle.sets.specs.Sets.{nobody}
 use Rattle.sets.proofs.Members.{has-nobody}
 use Rattle.meanings.specs.Table.{nodes, satisfied}

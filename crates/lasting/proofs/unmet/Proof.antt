@@ -1,5 +1,4 @@
 -- Nodes found satisfied are no longer due, with those alike; at the first that is not, not all of the set are.
-use native.Mathlib.Omega.{arith}
 use mathlib.Core.Path.{_≡_, sym, ap, _∙_, subst}
 use Prim.Native.Nat.{ℕ, _<_}
 use Rattle.sets.specs.Sets.{_∖_, size}

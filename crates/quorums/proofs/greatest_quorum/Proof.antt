@@ -1,8 +1,6 @@
 -- The table's faults first, then 8 for either set, each handed on whatever the answer would be; then the set and its rounds.
 use mathlib.Core.Path.{_∙_, ap}
 use Rattle.sets.specs.Sets.{within}
-use Rattle.meanings.specs.Rounds.{rounds}
-use Rattle.meanings.specs.Replies.{Rounds}
 use Rattle.meanings.specs.Questions.{greatestReply}
 use Rattle.answers.specs.Said.{greatestSays}
 use Rattle.faults.proofs.Known.{fault-known}

@@ -1,13 +1,10 @@
 -- Not empty, apart from d, and every node satisfied: the three tests of the definition, in their order.
-use mathlib.Core.Path.{_≡_, _∙_}
+use mathlib.Core.Path.{_∙_}
 use Rattle.meanings.specs.Table.{nodes, satisfied}
 use Rattle.theory.proofs.Tests.{no-nodes, counted-out, as-settled}
 use borrow.Author.Needs.{needs}
 use Rattle.rounds.proofs.quorum.Statement.{statement}
 use Rattle.rounds.proofs.quorum.Tie as tie
-use Rattle.rounds.proofs.quorum.Reads as reads
-use Rattle.rounds.proofs.quorum.Lts as lts
-use Rattle.rounds.proofs.settled.Reads as settled-reads
 
 returns : tie.Need-returns
 returns c =

@@ -1,5 +1,5 @@
 -- Each group passed stays as a whole; one that does not has a node that is not satisfied.
-use Prim.Native.Nat.{ℕ, _+_, _-_, _*_, _<_, _≤_}
+use Prim.Native.Nat.{ℕ, _-_, _<_, _≤_}
 use native.Mathlib.Nat.{not-suc-le-zero}
 use native.Mathlib.Omega.{arith}
 use mathlib.Core.Path.{_≡_, sym, _∙_}
@@ -7,12 +7,8 @@ use borrow.Author.Count.{below-more}
 use Rattle.sets.specs.Sets.{_∩_}
 use Rattle.groups.specs.Groups.{nodesAt, staying}
 use Rattle.rounds.proofs.Laws.{all-whole, not-whole}
-use borrow.Author.Needs.{needs}
 use Rattle.rounds.proofs.settled.Statement.{statement}
 use Rattle.rounds.proofs.settled.Tie as tie
-use Rattle.rounds.proofs.settled.Reads as reads
-use Rattle.rounds.proofs.settled.Lts as lts
-use Rattle.rounds.proofs.stay.Reads as stay-reads
 
 abbrev Inv-loop : tie.InvT-loop
 Inv-loop t plan groups with c g₀ g = (g ≤ groups) × ((j : ℕ) → j < g → staying t plan with c j ≡ c ∩ nodesAt plan j)

@@ -4,9 +4,6 @@ use Rattle.rounds.proofs.Laws.{staying-true, staying-false, staying-non
 use borrow.Author.Needs.{needs}
 use Rattle.rounds.proofs.stay.Statement.{statement}
 use Rattle.rounds.proofs.stay.Tie as tie
-use Rattle.rounds.proofs.stay.Reads as reads
-use Rattle.rounds.proofs.stay.Lts as lts
-use Rattle.judge.proofs.satisfies.Reads as satisfies-reads
 
 mul-here : tie.Need-mul-here
 mul-here c = search needs

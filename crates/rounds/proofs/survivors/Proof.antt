@@ -1,6 +1,6 @@
 -- The outer loop's invariant is that what is left of those present is the answer, and the rounds so far with those still to come the
 -- number; the inner walk gathers, group by group, those who stay. A round that is not the last leaves fewer, so the rounds end.
-use Prim.Native.Nat.{ℕ, _+_, _-_, _<_, _≤_, _^_}
+use Prim.Native.Nat.{ℕ, _-_, _<_, _≤_, _^_}
 use native.Mathlib.Omega.{arith}
 use mathlib.Core.Path.{_≡_, refl, sym, ap, ap₂, _∙_, subst}
 use mathlib.Core.Logic.{⊎-elim, inl, inr}
@@ -15,10 +15,6 @@ use Rattle.rounds.proofs.Laws.{of-next, of-round, Standing, none-left, 
 use borrow.Author.Needs.{needs}
 use Rattle.rounds.proofs.survivors.Statement.{statement}
 use Rattle.rounds.proofs.survivors.Tie as tie
-use Rattle.rounds.proofs.survivors.Reads as reads
-use Rattle.rounds.proofs.survivors.Lts as lts
-use Rattle.rounds.proofs.stay.Reads as stay-reads
-use Rattle.sets.proofs.without.Reads as without-reads
 
 -- the walk over all groups has gathered a round
 gathered : (t plan : List ℕ) (groups d present keep g : ℕ) → Grouped t plan groups → present < 2 ^ nodes t → g ≡ groups

@@ -1,6 +1,6 @@
 -- 2 ^ n - 1; at 64 the shift would be too wide, and the word is all ones.
 use Prim.Native.Nat.{ℕ, _-_, _<_, _^_}
-use mathlib.Core.Path.{_≡_, refl, sym, ap, _∙_}
+use mathlib.Core.Path.{sym, ap}
 use native.Mathlib.Omega.{arith}
 use lib.Pow.{pow-pos}
 use Rattle.sets.specs.Sets.{everyone}

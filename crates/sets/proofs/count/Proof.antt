@@ -1,7 +1,6 @@
 -- The machine's count is the size over 64 places.
 use native.Mathlib.Omega.{arith}
 use Rattle.sets.proofs.Size.{ones-size, size-le}
-use borrow.Author.Needs.{needs}
 use Rattle.sets.proofs.count.Statement.{statement}
 use Rattle.sets.proofs.count.Tie as tie
 

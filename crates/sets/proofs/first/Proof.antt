@@ -2,7 +2,6 @@
 use mathlib.Core.Path.{refl}
 use lib.Count.{trailing-le}
 use native.Mathlib.Omega.{arith}
-use borrow.Author.Needs.{needs}
 use Rattle.sets.proofs.first.Statement.{statement}
 use Rattle.sets.proofs.first.Tie as tie
 

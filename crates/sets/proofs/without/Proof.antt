@@ -1,7 +1,6 @@
 -- The definition of the difference is this very word.
 use Rattle.sets.specs.Sets.{_∖_}
 use mathlib.Core.Path.{refl}
-use borrow.Author.Needs.{needs}
 use Rattle.sets.proofs.without.Statement.{statement}
 use Rattle.sets.proofs.without.Tie as tie
 

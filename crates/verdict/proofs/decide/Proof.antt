@@ -1,6 +1,5 @@
 -- The plan and the ground are found before the first visit.
 use native.Mathlib.Omega.{arith}
-use mathlib.Core.Path.{_≡_}
 use Rattle.verdict.proofs.Root.{ground-of}
 use Rattle.tables.proofs.Sound.{sound-table}
 use borrow.Author.Needs.{needs}

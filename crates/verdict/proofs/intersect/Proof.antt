@@ -1,5 +1,5 @@
 -- The table's faults first, then 8, each handed on whatever the answer would be; then the search's answer, with what it means.
-use mathlib.Core.Path.{_≡_, _∙_, ap}
+use mathlib.Core.Path.{_∙_, ap}
 use Rattle.meanings.specs.Table.{nodes, satisfied}
 use Rattle.meanings.specs.Trees.{verdictTree, walk}
 use Rattle.meanings.specs.Questions.{verdictReply, verdictSays as replySays}
@@ -10,12 +10,6 @@ use Rattle.verdict.proofs.Meaning.{says-within, kept-bad, kept-outside,
 use borrow.Author.Needs.{needs}
 use Rattle.verdict.proofs.intersect.Statement.{statement}
 use Rattle.verdict.proofs.intersect.Tie as tie
-use Rattle.verdict.proofs.intersect.Reads as reads
-use Rattle.verdict.proofs.intersect.Lts as lts
-use Rattle.faults.proofs.check_table.Reads as check-table-reads
-use Rattle.quorums.proofs.fault_of.Reads as fault-of-reads
-use Rattle.quorums.proofs.inside.Reads as inside-reads
-use Rattle.verdict.proofs.decide.Reads as decide-reads
 
 check-table-requires : tie.Need-check-table-requires
 check-table-requires c κs = search needs

@@ -1,5 +1,5 @@
 -- The root visit: no node chosen, the whole ground open, and the greatest quorum in it found by judging every node.
-use mathlib.Core.Path.{_≡_, sym, ap, ap₂, _∙_, subst}
+use mathlib.Core.Path.{sym, ap, ap₂, _∙_, subst}
 use Prim.Native.Nat.{ℕ, _/_, _<_, _^_}
 use Rattle.sets.proofs.Size.{size-at}
 use Rattle.meanings.specs.Table.{nodes, satisfied}

@@ -1,5 +1,5 @@
 -- By what is sought.
-use mathlib.Core.Path.{_≡_, sym, subst}
+use mathlib.Core.Path.{sym, subst}
 use Rattle.branches.specs.Branches.{chosenBelow}
 use Rattle.visits.specs.declared.Sought.{Sought}
 use Rattle.visits.specs.Visits.{Stands, Ready, Below}

@@ -1,5 +1,5 @@
 -- By what is sought.
-use mathlib.Core.Path.{_≡_, sym, ap, _∙_, subst}
+use mathlib.Core.Path.{sym, ap, _∙_, subst}
 use Rattle.meanings.specs.Table.{nodes, satisfied}
 use Rattle.visits.specs.declared.Sought.{Sought}
 use Rattle.visits.specs.Visits.{Asked, Left, spared}

@@ -1,10 +1,9 @@
 -- No node, or the lowest.
-use mathlib.Core.Path.{_≡_, sym, ap, _∙_}
+use mathlib.Core.Path.{sym, ap, _∙_}
 use mathlib.Core.Bool.{Bool, cond}
 use Prim.Native.Nat.{ℕ}
 use borrow.Author.Tests.{eq-eqb, ne-eqb}
 use Rattle.sets.specs.Sets.{lowest}
-use Rattle.visits.specs.declared.Step.{Step}
 use Rattle.visits.specs.declared.Step.the-variants.{Stuck, Split}
 use borrow.Author.Needs.{needs}
 use Rattle.visits.proofs.choose.Statement.{statement}

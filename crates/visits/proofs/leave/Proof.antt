@@ -1,6 +1,6 @@
 -- Node v is new among the nodes outside c and r.
 use native.Mathlib.Omega.{arith}
-use mathlib.Core.Path.{_≡_, ap, _∙_}
+use mathlib.Core.Path.{ap, _∙_}
 use Prim.Native.Nat.{ℕ, _<_}
 use Rattle.sets.specs.Sets.{_∖_}
 use Rattle.tables.proofs.Sound.{sound-table}

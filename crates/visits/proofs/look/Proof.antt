@@ -1,5 +1,5 @@
 -- Each kind by its own tree.
-use mathlib.Core.Path.{_≡_, sym, subst}
+use mathlib.Core.Path.{sym, subst}
 use Rattle.visits.specs.declared.Sought.{Sought}
 use Rattle.visits.specs.Visits.{Stands, Comes}
 use borrow.Author.Needs.{needs}

@@ -1,5 +1,5 @@
 -- The same for both trees: with no node chosen, all nodes are in reach, and all lie outside.
-use mathlib.Core.Path.{_≡_, ap, sym, subst}
+use mathlib.Core.Path.{ap, sym, subst}
 use Rattle.sets.specs.Sets.{nobody}
 use Rattle.sets.proofs.Members.{has-nobody}
 use Rattle.branches.specs.declared.Visit.{Visit}

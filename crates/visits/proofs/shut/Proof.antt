@@ -1,11 +1,10 @@
 -- Known where c has grown; otherwise a quorum there has the nodes that are due.
 use mathlib.Core.Path.{_≡_, sym, ap, _∙_, subst}
-use mathlib.Core.Bool.{Bool, true}
-use Prim.Native.Nat.{ℕ, _<_, _^_}
-use Rattle.sets.specs.Sets.{nobody, everyone, _∪_, _∖_, within}
+use Prim.Native.Nat.{ℕ}
+use Rattle.sets.specs.Sets.{nobody, everyone, _∪_, _∖_}
 use Rattle.sets.proofs.Members.{has-nobody, ∖-lt, everyone-lt}
 use Rattle.meanings.specs.Table.{nodes, satisfied}
-use Rattle.meanings.specs.Quorums.{greatest, holdsQuorum}
+use Rattle.meanings.specs.Quorums.{greatest}
 use Rattle.lasting.specs.Lasting.{holding}
 use Rattle.lasting.proofs.Below.{all-due, holding-holds}
 use Rattle.visits.proofs.Handed.{due-there}

@@ -1,5 +1,5 @@
 -- What is left of the quorum without the node, where it has all that are done.
-use mathlib.Core.Path.{_≡_, sym, ap, _∙_, subst}
+use mathlib.Core.Path.{sym, ap, _∙_, subst}
 use Prim.Native.Nat.{ℕ}
 use Rattle.sets.specs.Sets.{nobody, only, _∖_}
 use Rattle.meanings.specs.Table.{nodes, satisfied}

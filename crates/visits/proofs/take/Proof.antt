@@ -1,6 +1,6 @@
 -- The greatest quorum outside c is what lasts of it without v.
 use native.Mathlib.Omega.{arith}
-use mathlib.Core.Path.{_≡_, ap, _∙_}
+use mathlib.Core.Path.{ap, _∙_}
 use Prim.Native.Nat.{ℕ, _<_}
 use Rattle.sets.specs.Sets.{_∖_}
 use Rattle.tables.proofs.Sound.{sound-table}

@@ -8,7 +8,7 @@ use Rattle.visits.specs.declared.Step.{Step}
 use Rattle.visits.specs.Visits.{treeAt, openBelow, Comes, Splits}
 use Rattle.walks.proofs.Laws.{walk-spent, walk-leaf, walk-found, walk-unsplit, walk-first, walk-second, still-fewer, refused}
 use borrow.Author.Needs.{needs}
-use Prim.Native.Nat.{ℕ, _<_, _≤_, _+_}
+use Prim.Native.Nat.{ℕ, _<_, _+_}
 use borrow.Fn.Kinds.{In}
 use borrow.Fn.PlainCycle.{Measures, is, falls, and}
 use Rattle.walks.proofs.walk.Reads as walk

@@ -1,5 +1,5 @@
 -- A store past the end changes nothing.
-use mathlib.Core.Path.{_≡_, sym}
+use mathlib.Core.Path.{sym}
 use lib.Seq.{set-out}
 use borrow.Author.Needs.{needs}
 use Rattle.walks.proofs.put.Statement.{statement}
