@@ -62,7 +62,7 @@ fn divided(found: Verdict) -> Intact
 }
 
 // Do all quorums intersect, with all but q counted out? Where q is all nodes, this is the plain verdict.
-pub fn verdict_of(t: &[u64], plan: &[u64], all: u64, q: u64, allowance: u64, spent: u64) -> Verdict
+fn verdict_of(t: &[u64], plan: &[u64], all: u64, q: u64, allowance: u64, spent: u64) -> Verdict
     requires { ⌜ Asked (now t) (now plan) all q ⌝ }
     ensures { λ o. ⌜ o ≡ verdictWithin allowance spent (walk (verdictTree (nodesOf (now (t .entry))) (satisfied (now (t .entry))) (everyone (nodesOf (now (t .entry))) ∖ q))) ⌝ }
 {
@@ -107,7 +107,7 @@ fn round(t: &[u64], plan: &[u64], all: u64, left: u64, allowance: u64, spent: u6
 }
 
 // The rounds from u on, after so many visits. A round that is not the last leaves fewer nodes, so the rounds end.
-pub fn rounds_from(t: &[u64], plan: &[u64], all: u64, u: u64, allowance: u64, spent: u64) -> Intact
+fn rounds_from(t: &[u64], plan: &[u64], all: u64, u: u64, allowance: u64, spent: u64) -> Intact
     requires { ⌜ Asked (now t) (now plan) all u ⌝ }
     ensures { λ o. ⌜ o ≡ within allowance spent (roundsFrom (nodesOf (now (t .entry))) (satisfied (now (t .entry))) (suc (nodesOf (now (t .entry)))) u) ⌝ }
 {

@@ -51,7 +51,7 @@ fn yes_or_no(yes: bool) -> Judged
 }
 
 // The record that opens node v. There is one, so the walk over the records ends at it.
-pub fn head(t: &[u64], v: u64) -> usize
+fn head(t: &[u64], v: u64) -> usize
     requires { ⌜ v < nodesOf (now t) ⌝ }
     ensures { λ o. ⌜ (o ≡ headOf (now (t .entry)) v) × (o < records (now (t .entry))) ⌝ }
 {

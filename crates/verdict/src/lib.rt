@@ -53,7 +53,7 @@ fn look(t: &[u64], plan: &[u64], q: Question, a: Visit) -> Step
 }
 
 // A visit and all below it, after so many visits. The open nodes below a split are fewer by the node chosen.
-pub fn search(t: &[u64], plan: &[u64], q: Question, a: Visit, spent: u64) -> Verdict
+fn search(t: &[u64], plan: &[u64], q: Question, a: Visit, spent: u64) -> Verdict
     requires { ⌜ Visiting (now t) (now plan) q a ⌝ }
     ensures { λ o. ⌜ o ≡ within (q .allowance) spent (walk (treeOf (now (t .entry)) (q .d) (a .c) (a .r))) ⌝ }
 {
@@ -112,7 +112,7 @@ pub fn search_from(
 }
 
 // The whole search on a sound table: from no node chosen and the ground open.
-pub fn decide(t: &[u64], nodes: u64, out: u64, allowance: u64) -> Verdict
+fn decide(t: &[u64], nodes: u64, out: u64, allowance: u64) -> Verdict
     requires { ⌜ (check (now t) ≡ sound) × (nodes ≡ nodesOf (now t)) ⌝ }
     ensures { λ o. ⌜ o ≡ within allowance 0 (walk (verdictTree (nodesOf (now (t .entry))) (satisfied (now (t .entry))) out)) ⌝ }
 {

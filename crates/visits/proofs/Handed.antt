@@ -3,6 +3,7 @@ use mathlib.Core.Path.{_≡_, refl, sym, ap, _∙_, subst}
 use mathlib.Core.Bool.{Bool, true, false}
 use mathlib.Core.List.{List}
 use mathlib.Core.Logic.{_⊎_, ⊎-elim}
+use native.Mathlib.Omega.{arith}
 use Prim.Native.Nat.{ℕ, _^_, _<_}
 use lib.Pow.{pow-pos, pow-lt}
 use Rattle.sets.specs.Sets.{has, nobody, everyone, only, _∪_, _∩_, _∖_, within}
@@ -12,6 +13,7 @@ use Rattle.meanings.specs.Table.{nodes, satisfied}
 use Rattle.meanings.specs.Quorums.{quorum, greatest, holdsQuorum}
 use Rattle.theory.proofs.Quorum.{quorum-is, is-quorum, a-node}
 use Rattle.theory.proofs.Greatest.{greatest-lt, greatest-sub, greatest-from, greatest-has, greatest-grows, greatest-quorum, greatest-holds, holds-greatest}
+use Rattle.tables.proofs.Sound.{sound-table}
 use Rattle.judge.proofs.Monotone.{satisfied-monotone}
 use Rattle.lasting.specs.Lasting.{holding, Striking}
 use Rattle.lasting.proofs.Laws.{holding-nobody}
@@ -51,8 +53,14 @@ module _ (t plan : List ℕ) (all : ℕ) (a : Visit) (S : Stands t plan all Bloc
   v-in : In (a .g) v
   v-in = ∩-out (a .r) (a .g) v (R .one-in) .1
 
-  pub open-lt : v < m
+  open-lt : v < m
   open-lt = has-below m (a .r) v (S .open-in) v-open
+
+  pub open-64 : v < 64
+  open-64 =
+      let m64 = sound-table t (S .ground .planned .checked) .nodes-le in
+      let l = open-lt in
+      omega arith
 
   not-chosen : has (a .c) v ≡ false
   not-chosen = ∖-out (everyone m) (a .c) v (greatest-sub m σ nobody (everyone m ∖ a .c) v (subst (λ (x : ℕ). In x v) (S .known .outside) v-in)) .1

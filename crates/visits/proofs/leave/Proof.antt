@@ -1,22 +1,16 @@
 -- Node v is new among the nodes outside c and r.
-use native.Mathlib.Omega.{arith}
 use mathlib.Core.Path.{ap, _∙_}
-use Prim.Native.Nat.{ℕ, _<_}
+use Prim.Native.Nat.{ℕ}
 use Rattle.sets.specs.Sets.{_∖_}
-use Rattle.tables.proofs.Sound.{sound-table}
-use Rattle.visits.proofs.Handed.{open-lt, leave-blocking}
+use Rattle.visits.proofs.Handed.{open-64, leave-blocking}
 use borrow.Author.Needs.{needs}
 use Rattle.visits.proofs.leave.Statement.{statement}
 use Rattle.visits.proofs.leave.Tie as tie
 
-node-lt : (s : tie.Start) → s .args .v < 64
-node-lt s =
-    let m = sound-table (s .args .t .now) (s .pre .0 .ground .planned .checked) .nodes-le in
-    let l = open-lt (s .args .t .now) (s .args .plan .now) (s .args .all) (s .args .a) (s .pre .0) (s .args .v) (s .pre .1) in
-    omega arith
-
 one-requires : tie.Need-one-requires
-one-requires c κs = node-lt (c .before .before)
+one-requires c κs =
+    let s = c .before .before in
+    open-64 (s .args .t .now) (s .args .plan .now) (s .args .all) (s .args .a) (s .pre .0) (s .args .v) (s .pre .1)
 
 without-requires : tie.Need-without-requires
 without-requires c κs = search needs
