@@ -3,7 +3,7 @@ use mathlib.Core.Path.{_≡_, refl, sym, ap, _∙_}
 use mathlib.Core.Bool.{Bool, true, false, _&&_}
 use mathlib.Core.List.{[]}
 use lib.Dec.{eqb, leb}
-use Rattle.meanings.specs.Replies.{Reply, value, valueIn, Place, Nodes, Records, Answer, Set, Rounds, First, Second, Count, Visits}
+use Rattle.meanings.specs.Replies.{Reply, value, Place, Nodes, Records, Answer, Set, Rounds, First, Second, Count, Visits}
 use Rattle.answers.specs.declared.Fault.{Fault}
 use Rattle.answers.specs.declared.Fault.the-variants as Fx
 use Rattle.answers.specs.declared.Checked.{Checked}
@@ -40,7 +40,6 @@ faultFrom r =
     (pick (eqb (r .number) 4) (Fx.Nodes p) (pick (eqb (r .number) 5) (Fx.Threshold p) (pick (eqb (r .number) 6) (Fx.Member p) (Fx.Entries p))))))
 
 fault-back : (f : Fault) → faultFrom (faultSays f) ≡ f
-unfolding valueIn
 fault-back (Fx.Count p) = refl
 fault-back (Fx.Control p) = refl
 fault-back (Fx.Level p) = refl
@@ -55,7 +54,6 @@ module _ {A : Type 0} (other : Reply → A) (bad : Fault → A) where
   orFault r = pick (leb 1 (r .number) && leb (r .number) 7) (bad (faultFrom r)) (other r)
 
   bad-back : (f : Fault) → orFault (faultSays f) ≡ bad f
-  unfolding valueIn
   bad-back (Fx.Count p) = refl
   bad-back (Fx.Control p) = refl
   bad-back (Fx.Level p) = refl
@@ -72,7 +70,6 @@ abbrev soundFrom : Reply → Checked
 soundFrom r = Cx.Sound (value r Nodes) (value r Records)
 
 checked-back : (x : Checked) → orFault soundFrom Cx.Bad (checkedSays x) ≡ x
-unfolding valueIn
 checked-back (Cx.Sound n r) = refl
 checked-back (Cx.Bad f) = bad-back soundFrom Cx.Bad f
 
@@ -84,7 +81,6 @@ readFrom r =
     pick (eqb (r .number) 0) (Rx.Words (value r Count)) (pick (eqb (r .number) 10) (Rx.Short (value r Count)) (Rx.Malformed (value r Place)))
 
 read-back : (x : Read) → orFault readFrom Rx.Bad (readSays x) ≡ x
-unfolding valueIn
 read-back (Rx.Words c) = refl
 read-back (Rx.Short c) = refl
 read-back (Rx.Malformed l) = refl
@@ -97,7 +93,6 @@ abbrev wroteFrom : Reply → Wrote
 wroteFrom r = pick (eqb (r .number) 0) (Wx.Bytes (value r Count)) (Wx.Short (value r Count))
 
 wrote-back : (x : Wrote) → orFault wroteFrom Wx.Bad (wroteSays x) ≡ x
-unfolding valueIn
 wrote-back (Wx.Bytes c) = refl
 wrote-back (Wx.Short c) = refl
 wrote-back (Wx.Bad f) = bad-back wroteFrom Wx.Bad f
@@ -109,7 +104,6 @@ abbrev judgedFrom : Reply → Judged
 judgedFrom r = pick (eqb (r .number) 8) Jx.Outside (pick (eqb (value r Answer) 1) Jx.Yes Jx.No)
 
 judged-back : (x : Judged) → orFault judgedFrom Jx.Bad (judgedSays x) ≡ x
-unfolding valueIn
 judged-back Jx.Yes = refl
 judged-back Jx.No = refl
 judged-back Jx.Outside = refl
@@ -122,7 +116,6 @@ abbrev greatestFrom : Reply → Greatest
 greatestFrom r = pick (eqb (r .number) 8) Gx.Outside (Gx.Is (value r Set) (value r Rounds))
 
 greatest-back : (x : Greatest) → orFault greatestFrom Gx.Bad (greatestSays x) ≡ x
-unfolding valueIn
 greatest-back (Gx.Is s k) = refl
 greatest-back Gx.Outside = refl
 greatest-back (Gx.Bad f) = bad-back greatestFrom Gx.Bad f
@@ -137,7 +130,6 @@ verdictFrom r =
     (pick (eqb (r .number) 9) (Vx.Spent (value r Visits)) (pick (eqb (r .number) 13) Vx.Unsplit Vx.Outside))
 
 verdict-back : (x : Verdict) → orFault verdictFrom Vx.Bad (verdictSays x) ≡ x
-unfolding valueIn
 verdict-back (Vx.Yes k) = refl
 verdict-back (Vx.No a b k) = refl
 verdict-back (Vx.Spent k) = refl
@@ -154,7 +146,6 @@ listedFrom r =
     (pick (eqb (r .number) 10) (Lx.Short (value r Count)) (pick (eqb (r .number) 9) (Lx.Spent (value r Visits)) Lx.Unsplit))
 
 listed-back : (x : Listed) → orFault listedFrom Lx.Bad (listedSays x) ≡ x
-unfolding valueIn
 listed-back (Lx.Sets c k) = refl
 listed-back (Lx.Short c) = refl
 listed-back (Lx.Spent k) = refl
@@ -171,7 +162,6 @@ intactFrom r =
     (pick (eqb (r .number) 9) (Ix.Spent (value r Visits)) (pick (eqb (r .number) 13) Ix.Unsplit Ix.Outside)))
 
 intact-back : (x : Intact) → orFault intactFrom Ix.Bad (intactSays x) ≡ x
-unfolding valueIn
 intact-back (Ix.Are s k) = refl
 intact-back (Ix.Divided a b k) = refl
 intact-back (Ix.Spent k) = refl

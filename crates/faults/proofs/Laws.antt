@@ -19,7 +19,7 @@ use Rattle.sets.proofs.Members.{everyone-lt, everyone-all, within-lt, sub-withi
 use Rattle.sets.proofs.Size.{ones-size, size-le}
 use Rattle.meanings.specs.Table.{records, control, threshold, level, members, nodes, entries}
 use Rattle.meanings.specs.Faults.{Check, sound, fault, orElse, firstFault, badCount, badControl, badLevel, surplus, noThreshold, strangers, tooHigh, shapeFault, entryFault, check}
-use Rattle.meanings.specs.Replies.{Reply, reply, _is_, Place, Nodes, Records, value, valueIn}
+use Rattle.meanings.specs.Replies.{Reply, reply, _is_, Place, Nodes, Records, value}
 use Rattle.meanings.specs.Questions.{onCheck, checkReply}
 use Rattle.answers.specs.declared.Fault.{Fault}
 use Rattle.answers.specs.declared.Fault.the-variants as Fx
@@ -52,7 +52,6 @@ module _ (f : ℕ → Check) (t : List ℕ) where
 
 -- ---- an answer that counts says that nothing is wrong, and any other hands its fault on
 pub counted-back : (c : Check) (n k m j : ℕ) → counted n k ≡ onCheck c (counted m j) → (c ≡ sound) × (n ≡ m) × (k ≡ j)
-unfolding valueIn
 counted-back sound n k m j e = (refl, ap (λ (x : Reply). value x Nodes) e, ap (λ (x : Reply). value x Records) e)
 counted-back (fault x p) n k m j e =
     let z : _≡_ {A = ℕ} 2 1 = ap (λ (y : Reply). length (y .names)) e in

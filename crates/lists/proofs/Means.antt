@@ -15,7 +15,7 @@ use Rattle.meanings.specs.Table.{nodes, satisfied}
 use Rattle.meanings.specs.Faults.{Check, sound, fault, check}
 use Rattle.meanings.specs.Quorums.{minimalQuorums, minimalBlockingSets}
 use Rattle.meanings.specs.Trees.{Listing, listed, broken, list, minimalTree, blockingTree}
-use Rattle.meanings.specs.Replies.{Reply, reply, _is_, Count, Visits, leaves, value, valueIn}
+use Rattle.meanings.specs.Replies.{Reply, reply, _is_, Count, Visits, leaves, value}
 use Rattle.meanings.specs.Questions.{onCheck, listSays, listPuts, minimalReply, blockingReply}
 use Rattle.theory.proofs.Walks.{visits}
 use Rattle.theory.proofs.Minimal.{minimal-listed, minimal-visits}
@@ -81,7 +81,6 @@ module _ (allowance : ℕ) (l : List ℕ) (steps : ℕ) where
 
   -- only one case is number 0, and none is number 13
   answer-case : (count v : ℕ) (k : Check) (x y : Bool) → listedSays (Sets count v) ≡ says k x y → (k ≡ sound) × (x ≡ true) × (y ≡ false) × (count ≡ length l) × (v ≡ steps)
-  unfolding valueIn
   answer-case count v (fault j p) x y e = let w : _≡_ {A = ℕ} 2 1 = ap (λ (r : Reply). length (r .names)) e in absurd (omega arith)
   answer-case count v sound true true e = let w : _≡_ {A = ℕ} 0 10 = ap (λ (r : Reply). r .number) e in absurd (omega arith)
   answer-case count v sound true false e = (refl, refl, refl, ap (λ (r : Reply). value r Count) e, ap (λ (r : Reply). value r Visits) e)

@@ -40,7 +40,7 @@ rank Count = 8
 rank Visits = 9
 
 -- Fields not named are 0.
-unfoldable pub valueIn : List Named → Field → ℕ
+abbrev pub valueIn : List Named → Field → ℕ
 valueIn [] f = 0
 valueIn (x ∷ l) f = elim (eqb (rank (x .field)) (rank f)) [ true ↦ x .value | false ↦ valueIn l f ]
 

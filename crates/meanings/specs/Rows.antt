@@ -17,7 +17,7 @@ use Rattle.meanings.specs.Rounds.{survivors}
 use Rattle.meanings.specs.Trees as Trees
 use Rattle.meanings.specs.Trees.{list, minimalTree, blockingTree}
 use Rattle.meanings.specs.Intact as Intact
-use Rattle.meanings.specs.Replies.{Reply, value, valueIn, Answer, Set, First, Second}
+use Rattle.meanings.specs.Replies.{Reply, value, Answer, Set, First, Second}
 use Rattle.meanings.specs.Questions.{checkReply, quorumReply, greatestReply, blocksReply, verdictReply, minimalReply, blockingReply, intactReply, listPuts}
 
 -- a line (level; threshold; members), and a table of lines
@@ -103,5 +103,5 @@ Every l = map asked l ≡ map said l
 
 -- All that a row computes with: a proof that says `unfolding computing` sees through each of these.
 unfoldable pub computing : Unit {0}
-unfolding has everyone _∖_ size within smaller meets setOf each keep all some from before subsets allSets someSet setsThat trailingZeros records control members threshold level heads nodes headOf innerOf innerSets entries satisfies satisfied Faults.firstFault Faults.badCount Faults.badControl Faults.badLevel Faults.surplus Faults.noThreshold Faults.strangers Faults.tooHigh Faults.shapeFault Faults.entryFault Faults.check Quorums.ground Quorums.quorum Quorums.greatest Quorums.holdsQuorum Quorums.intersecting Quorums.disjointQuorums Quorums.minimalQuorum Quorums.blockingSet Quorums.minimalBlocking Quorums.minimalQuorums Quorums.minimalBlockingSets Quorums.dset Quorums.intact Quorums.intactNodes Quorums.blocks Rounds.round Rounds.lastRound Rounds.roundsFrom Rounds.leftFrom Rounds.rounds Rounds.survivors Trees.quorumTree Trees.overHalf Trees.pairAt Trees.verdictTree Trees.minimalTree Trees.blockingFrom Trees.blockingTree Trees.walk Trees.list Intact.nextU Intact.roundsFrom Intact.intactSearch valueIn table checkReply quorumReply greatestReply blocksReply verdictReply minimalReply blockingReply intactReply
+unfolding has everyone _∖_ size within smaller meets setOf each keep all some from before subsets allSets someSet setsThat trailingZeros records control members threshold level heads nodes headOf innerOf innerSets entries satisfies satisfied Faults.firstFault Faults.badCount Faults.badControl Faults.badLevel Faults.surplus Faults.noThreshold Faults.strangers Faults.tooHigh Faults.shapeFault Faults.entryFault Faults.check Quorums.ground Quorums.quorum Quorums.greatest Quorums.holdsQuorum Quorums.intersecting Quorums.disjointQuorums Quorums.minimalQuorum Quorums.blockingSet Quorums.minimalBlocking Quorums.minimalQuorums Quorums.minimalBlockingSets Quorums.dset Quorums.intact Quorums.intactNodes Quorums.blocks Rounds.round Rounds.lastRound Rounds.roundsFrom Rounds.leftFrom Rounds.rounds Rounds.survivors Trees.quorumTree Trees.overHalf Trees.pairAt Trees.verdictTree Trees.minimalTree Trees.blockingFrom Trees.blockingTree Trees.walk Trees.list Intact.nextU Intact.roundsFrom Intact.intactSearch table checkReply quorumReply greatestReply blocksReply verdictReply minimalReply blockingReply intactReply
 computing = tt

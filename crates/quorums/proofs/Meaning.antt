@@ -17,7 +17,7 @@ use Rattle.meanings.specs.Table.{nodes, satisfied}
 use Rattle.meanings.specs.Faults.{Check, sound, fault, check}
 use Rattle.meanings.specs.Quorums.{quorum, greatest, blocks}
 use Rattle.meanings.specs.Rounds.{rounds}
-use Rattle.meanings.specs.Replies.{Reply, reply, _is_, Answer, Set, Rounds, rank, value, valueIn}
+use Rattle.meanings.specs.Replies.{Reply, reply, _is_, Answer, Set, Rounds, rank, value}
 use Rattle.meanings.specs.Questions.{onCheck, inNodes, yesOrNo, quorumReply, greatestReply, blocksReply}
 use Rattle.answers.specs.declared.Greatest.{Greatest}
 use Rattle.answers.specs.declared.Greatest.the-variants as Gx
@@ -90,7 +90,6 @@ module _ (t : List ℕ) (d u g : ℕ) (l : Largest t d u g) where
 answered-back : (c : Check) (a b : Bool) (g k m j : ℕ)
     → reply 0 (Set is g ∷ Rounds is k ∷ []) ≡ onCheck c (inNodes a (inNodes b (reply 0 (Set is m ∷ Rounds is j ∷ []))))
     → (c ≡ sound) × (a ≡ true) × (b ≡ true) × (g ≡ m) × (k ≡ j)
-unfolding valueIn
 answered-back sound true true g k m j e = (refl, refl, refl, ap (λ (x : Reply). value x Set) e, ap (λ (x : Reply). value x Rounds) e)
 answered-back sound true false g k m j e = let z : _≡_ {A = ℕ} 0 8 = ap (λ (x : Reply). x .number) e in absurd (omega arith)
 answered-back sound false b g k m j e = let z : _≡_ {A = ℕ} 0 8 = ap (λ (x : Reply). x .number) e in absurd (omega arith)
@@ -121,7 +120,6 @@ abbrev firstField : Reply → ℕ
 firstField r = elim (r .names) [ [] ↦ 10 | x ∷ l ↦ rank (x .field) ]
 
 judged-back : (c : Check) (a b yes x : Bool) → yesOrNo yes ≡ onCheck c (inNodes a (inNodes b (yesOrNo x))) → (c ≡ sound) × (a ≡ true) × (b ≡ true) × (x ≡ yes)
-unfolding valueIn
 judged-back sound true true true true e = (refl, refl, refl, refl)
 judged-back sound true true false false e = (refl, refl, refl, refl)
 judged-back sound true true true false e = let z : _≡_ {A = ℕ} 1 0 = ap (λ (y : Reply). value y Answer) e in absurd (omega arith)

@@ -8,8 +8,10 @@ use Rattle.lines.specs.Lines.{readField, readLast, readLine}
 use Rattle.meanings.specs.Replies.{reply, _is_, Visits, Count}
 use Rattle.meanings.specs.Rows.{computing}
 use Rattle.sheets.specs.Sheets.{takeLines, sheetLines, readReply, readPuts}
-use Rattle.report.specs.Words as word
-use Rattle.report.specs.Report.{row, refusedLine, nodesLine, answerText, verdictLine, listLine, setLine, setLines, listPart, minimalPart, blockingPart, reportOn, reportOf}
+use Rattle.fields.specs.Words as word
+use Rattle.fields.specs.Fields.{row}
+use Rattle.report_lines.specs.Lines.{refusedLine, nodesLine, answerText, verdictLine, listLine, setLine, setLines}
+use Rattle.report.specs.Report.{listPart, minimalPart, blockingPart, headPart, reportOn, reportOf}
 
 -- three lines, each (0; 2; 0,1,2)
 abbrev pub trioSheet : List ℕ
@@ -73,7 +75,7 @@ pub record Reports : Type 0 where
   pub blocking-none : setLine word.b 0 ≡ 98 ∷ 9 ∷ 45 ∷ 10 ∷ []
 
 pub reports : Reports
-unfolding computing reportOf reportOn minimalPart blockingPart readReply readPuts sheetLines takeLines readLine readField readLast readNumber numberOf digitAt digitOf readMembers readIds readId join row refusedLine nodesLine answerText verdictLine listLine setLine setLines listPart memberText withCommas nodesFrom numeral digits
+unfolding computing reportOf reportOn headPart minimalPart blockingPart readReply readPuts sheetLines takeLines readLine readField readLast readNumber numberOf digitAt digitOf readMembers readIds readId join row refusedLine nodesLine answerText verdictLine listLine setLine setLines listPart memberText withCommas nodesFrom numeral digits
 reports =
     record {
       trio = refl;

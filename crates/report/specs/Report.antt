@@ -1,62 +1,23 @@
--- Document 01, 'The report program': what each line of the report is, to the byte, as a function of what was answered; and what the whole
--- report of a sheet is.
-use Prim.Native.Nat.{ℕ}
+-- Document 01, 'The report program': what the whole report of a sheet is, and what the operation that writes it promises.
+use Prim.Native.Nat.{ℕ, _≤_}
+use mathlib.Core.Path.{_≡_}
 use mathlib.Core.Bool.{cond}
-use mathlib.Core.List.{List, [], _∷_, _++_}
+use mathlib.Core.List.{List, [], _++_}
 use lib.Dec.{eqb}
+use lib.ListN.{take}
 use Rattle.sets.specs.Sets.{nobody}
-use Rattle.decimal.specs.Decimal.{numeral}
-use Rattle.members.specs.Members.{memberText}
-use Rattle.meanings.specs.Replies.{Reply, value, Place, Nodes, Records, Answer, First, Second, Count, Visits}
+use Rattle.meanings.specs.Replies.{Reply}
 use Rattle.meanings.specs.Table.{nodes, satisfied}
 use Rattle.meanings.specs.Quorums.{minimalQuorums, minimalBlockingSets}
 use Rattle.meanings.specs.Questions.{checkReply, verdictReply, minimalReply, blockingReply}
+use Rattle.answers.specs.Said.{wroteSays}
+use Rattle.answers.specs.declared.Wrote.{Wrote}
+use Rattle.replies.specs.declared.Reply.{Reply as Struct}
+use Rattle.replies.specs.Shows.{told}
 use Rattle.sheets.specs.Sheets.{readReply, readPuts}
-use Rattle.report.specs.Words as word
-
--- a line: its fields with tabs between them, ended by LF
-unfoldable pub row : List (List ℕ) → List ℕ
-row [] = []
-row (w ∷ []) = w ++ 10 ∷ []
-row (w ∷ v ∷ ws) = w ++ 9 ∷ row (v ∷ ws)
-
--- a bad sheet: number and place
-unfoldable pub refusedLine : Reply → List ℕ
-refusedLine r = row (word.refused ∷ numeral (r .number) ∷ numeral (value r Place) ∷ [])
-
--- the nodes, and the count of records
-unfoldable pub nodesLine : Reply → List ℕ
-nodesLine r = row (word.nodes ∷ numeral (value r Nodes) ∷ word.sets ∷ numeral (value r Records) ∷ [])
-
--- yes or no where the question is answered, and a hyphen where it is not
-unfoldable pub answerText : Reply → List ℕ
-answerText r = cond (eqb (r .number) 0) (cond (eqb (value r Answer) 1) word.yes word.no) word.none
-
--- The verdict: number, answer, visits and the two sets. A set that is not named is 0, which prints as a hyphen.
-unfoldable pub verdictLine : Reply → List ℕ
-verdictLine r =
-    row (
-    word.verdict
-    ∷ numeral (r .number)
-    ∷ answerText r
-    ∷ numeral (value r Visits)
-    ∷ memberText (value r First)
-    ∷ memberText (value r Second)
-    ∷ [])
-
--- The minimal quorums or blocking sets: number, count, visits. With 9 the count is 0, and with 10 the visits are: they are not named.
-unfoldable pub listLine : (name : List ℕ) → Reply → List ℕ
-listLine name r = row (name ∷ numeral (r .number) ∷ numeral (value r Count) ∷ numeral (value r Visits) ∷ [])
-
--- a set of a list, printed as on a sheet
-unfoldable pub setLine : (letter : List ℕ) → ℕ → List ℕ
-setLine letter s = row (letter ∷ memberText s ∷ [])
-
--- ---- the whole report
--- the sets of a list, a line for each
-unfoldable pub setLines : (letter : List ℕ) → List ℕ → List ℕ
-setLines letter [] = []
-setLines letter (s ∷ l) = setLine letter s ++ setLines letter l
+use Rattle.sheets.specs.Promises.{Put}
+use Rattle.fields.specs.Words as word
+use Rattle.report_lines.specs.Lines.{refusedLine, nodesLine, verdictLine, listLine, setLines}
 
 -- a list: its line, and its sets where it is answered; with 9, 10 or 13 no set lines follow
 unfoldable pub listPart : (name letter : List ℕ) → Reply → List ℕ → List ℕ
@@ -80,10 +41,36 @@ minimalPart t = listPart word.minimal word.q (minimalReply t allowance room) (mi
 unfoldable pub blockingPart : (table : List ℕ) → List ℕ
 blockingPart t = listPart word.blocking word.b (blockingReply t allowance room) (minimalBlockingSets (nodes t) (satisfied t))
 
+-- what the report on a table starts with: its nodes and records, and the verdict
+unfoldable pub headPart : (table : List ℕ) → List ℕ
+headPart t = nodesLine (checkReply t) ++ verdictLine (verdictReply t nobody allowance)
+
 -- the report on a table
 unfoldable pub reportOn : (table : List ℕ) → List ℕ
-reportOn t = nodesLine (checkReply t) ++ (verdictLine (verdictReply t nobody allowance) ++ (minimalPart t ++ blockingPart t))
+reportOn t = headPart t ++ (minimalPart t ++ blockingPart t)
 
 -- The report on a sheet: one line for a bad one, otherwise that on the table it reads to.
 unfoldable pub reportOf : (sheet : List ℕ) → List ℕ
 reportOf s = cond (eqb (readReply s mostWords .number) 0) (reportOn (readPuts s)) (refusedLine (readReply s mostWords))
+
+-- The whole report at the front of a lent buffer; 10 with the bytes needed where it is too short. A bad sheet's report is its one line.
+abbrev pub ReportPromise : (sheet before after : List ℕ) → Wrote → Type 0
+ReportPromise sheet before after r = Put (reportOf sheet) before after (wroteSays r)
+
+-- ---- a list as it is written: how many of its sets follow its line, and that these lines are its part of the report
+unfoldable pub following : Struct → ℕ
+following r = cond (eqb (r .number) 0) (r .count) 0
+
+unfoldable pub listText : (name letter : List ℕ) → Struct → (sets : List ℕ) → List ℕ
+listText name letter r sets = listLine name (told r) ++ setLines letter sets
+
+pub record Part (name letter whole : List ℕ) (r : Struct) (sets : List ℕ) : Type 0 where
+  pub few : following r ≤ 1024
+  pub comes : listText name letter r (take (following r) sets) ≡ whole
+
+-- the lines of the nodes and the verdict; and a report's three parts, one after the other
+unfoldable pub headText : (checked verdict : Struct) → List ℕ
+headText c v = nodesLine (told c) ++ verdictLine (told v)
+
+unfoldable pub allText : (checked verdict minimal : Struct) → (quorums : List ℕ) → (blocking : Struct) → (blocks : List ℕ) → List ℕ
+allText c v m quorums b blocks = headText c v ++ (listText word.minimal word.q m quorums ++ listText word.blocking word.b b blocks)

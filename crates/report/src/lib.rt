@@ -1,221 +1,202 @@
-// The lines of the report (document 01, 'The report program'), each written into a lent buffer that has room for the longest.
-// A line is what an answer says: its number, and its values with 0 for what is not named.
+// The report on a sheet, whole, in a lent buffer (document 01, 'The report program'). The program prints the same lines one by one.
+// A buffer that is too short must stay as it was, so the report is measured first.
 ghost use mathlib.Core.Path.{_≡_};
-ghost use Prim.Native.Nat.{_≤_};
-ghost use mathlib.Core.List.{[], _∷_, _++_};
+ghost use mathlib.Core.List.{_++_};
+ghost use Prim.Native.Nat.{_+_, _*_, _≤_};
 ghost use lib.ListN.{length};
-ghost use Rattle.decimal.specs.Decimal.{numeral};
 ghost use Rattle.decimal.specs.Bytes.{Written};
-ghost use Rattle.members.specs.Members.{memberText};
-ghost use Rattle.answers.specs.Said.{faultSays, readSays, checkedSays, verdictSays, listedSays};
-ghost use Rattle.lines.specs.Lines.{lastText};
-ghost use Rattle.meanings.specs.Replies.{value, Place};
-ghost use Rattle.report.specs.Words.{refused, nodes as nodesWord, sets, verdict, minimal, blocking};
-ghost use Rattle.report.specs.Fields.{tabbed, ended, numbered, Line};
-ghost use Rattle.report.specs.Report.{row, refusedLine, nodesLine, verdictLine, listLine, setLine};
-use answers::Checked;
-use answers::Fault;
-use answers::Listed;
+ghost use Rattle.answers.specs.Said.{wroteSays};
+ghost use Rattle.replies.specs.Shows.{told};
+ghost use Rattle.sheets.specs.Promises.{Put};
+ghost use Rattle.fields.specs.Words as word;
+ghost use Rattle.fields.specs.Fields.{wordText, Counted};
+ghost use Rattle.report_lines.specs.Lines.{refusedLine, nodesLine, verdictLine, setLines};
+ghost use Rattle.report.specs.Report.{following as followingOf, headText, listText, allText, Part, minimalPart, blockingPart, reportOn, ReportPromise};
 use answers::Read;
-use answers::Verdict;
+use answers::Wrote;
+use fields::B;
+use fields::BLOCKING;
+use fields::MINIMAL;
+use fields::Q;
+use replies::Reply;
 
-// A word and the tab behind it.
-fn put_word(out: &mut [u8], w: &[u8]) -> usize
-    requires { ⌜ length (tabbed (now w)) ≤ length (now out) ⌝ }
-    ensures { λ r. ⌜ Written (tabbed (now (w .entry))) (now (out .entry)) (now (out .exit)) r ⌝ }
+// The visits that each question may take.
+pub const ALLOWANCE: u64 = 1000000;
+
+// The minimal quorums, in a list that has room for 1,024.
+pub fn minimal(table: &[u64], sets: &mut [u64]) -> Reply
+    requires { ⌜ length (now sets) ≡ 1024 ⌝ }
+    ensures { λ o. ⌜ Part word.minimal word.q (minimalPart (now (table .entry))) o (now (sets .exit)) ⌝ }
 {
-    let end = bytes::copy(w, out);
-    out[end] = 9;
-    end + 1
+    replies::of_listed(lists::minimal_quorums(table, ALLOWANCE, sets))
 }
 
-// A number that ends its line.
-fn put_end(out: &mut [u8], n: u64) -> usize
-    requires { ⌜ length (ended (numeral n)) ≤ length (now out) ⌝ }
-    ensures { λ r. ⌜ Written (ended (numeral n)) (now (out .entry)) (now (out .exit)) r ⌝ }
+// The minimal blocking sets, likewise.
+pub fn blocking(table: &[u64], sets: &mut [u64]) -> Reply
+    requires { ⌜ length (now sets) ≡ 1024 ⌝ }
+    ensures { λ o. ⌜ Part word.blocking word.b (blockingPart (now (table .entry))) o (now (sets .exit)) ⌝ }
 {
-    let k = decimal::put_number(out, n);
-    out[k] = 10;
-    k + 1
+    replies::of_listed(lists::blocking_sets(table, ALLOWANCE, sets))
 }
 
-// A set and the tab behind it.
-fn put_set(out: &mut [u8], m: u64) -> usize
-    requires { ⌜ length (tabbed (memberText m)) ≤ length (now out) ⌝ }
-    ensures { λ r. ⌜ Written (tabbed (memberText m)) (now (out .entry)) (now (out .exit)) r ⌝ }
+// How many set lines follow the line of a list: none where it is not answered.
+pub fn following(r: Reply) -> usize
+    ensures { λ o. ⌜ o ≡ followingOf r ⌝ }
 {
-    let k = members::put_members(out, m);
-    out[k] = 9;
-    k + 1
+    if r.number == 0 {
+        return r.count as usize;
+    }
+    0
 }
 
-// A word and a number, each with the tab behind it.
-fn put_numbered(out: &mut [u8], w: &[u8], n: u64) -> usize
-    requires { ⌜ length (numbered (now w) n) ≤ length (now out) ⌝ }
-    ensures { λ r. ⌜ Written (numbered (now (w .entry)) n) (now (out .entry)) (now (out .exit)) r ⌝ }
+// How many bytes the sets of a list take, a line for each behind the letter of the list.
+fn sets_len(letter: u64, sets: &[u64]) -> usize
+    requires { ⌜ length (now sets) ≤ 1024 ⌝ }
+    ensures { λ o. ⌜ Counted (setLines (wordText letter) (now (sets .entry))) (1092 * length (now (sets .entry))) o ⌝ }
 {
-    let a = put_word(out, w);
-    a + lines::put_field(&mut out[a..], n)
+    let mut total = 0;
+    let mut i = 0;
+    while i < sets.len() {
+        let line = report_lines::one(letter, sets[i]);
+        total += fields::line_len(&line);
+        i += 1;
+    }
+    total
 }
 
-// Two sets, which end their line.
-fn put_pair(out: &mut [u8], first: u64, second: u64) -> usize
-    requires { ⌜ length (tabbed (memberText first) ++ lastText second) ≤ length (now out) ⌝ }
-    ensures { λ r. ⌜ Written (tabbed (memberText first) ++ lastText second) (now (out .entry)) (now (out .exit)) r ⌝ }
+// Those lines at the front of out, each into what is left of it.
+fn put_sets(out: &mut [u8], letter: u64, sets: &[u64]) -> usize
+    requires { ⌜ length (setLines (wordText letter) (now sets)) ≤ length (now out) ⌝ }
+    ensures { λ o. ⌜ Written (setLines (wordText letter) (now (sets .entry))) (now (out .entry)) (now (out .exit)) o ⌝ }
 {
-    let a = put_set(out, first);
-    a + lines::put_last(&mut out[a..], second)
+    let mut at = 0;
+    let mut i = 0;
+    while i < sets.len() {
+        let line = report_lines::one(letter, sets[i]);
+        at += fields::put_line(&mut out[at..], &line);
+        i += 1;
+    }
+    at
 }
 
-// The line of a sheet that is turned away, by its number and place.
-fn refused_line(out: &mut [u8], number: u64, place: u64) -> usize
-    requires { ⌜ 512 ≤ length (now out) ⌝ }
-    ensures { λ r. ⌜ Line (row (refused ∷ numeral number ∷ numeral place ∷ [])) (now (out .entry)) (now (out .exit)) r ⌝ }
+// How many bytes the lines of the nodes and the verdict take.
+fn head_len(c: Reply, v: Reply) -> usize
+    ensures { λ o. ⌜ Counted (headText c v) 2184 o ⌝ }
 {
-    let a = put_numbered(out, b"refused", number);
-    a + put_end(&mut out[a..], place)
+    let nodes = report_lines::nodes(c);
+    let verdict = report_lines::verdict(v);
+    fields::line_len(&nodes) + fields::line_len(&verdict)
 }
 
-// The line of a table's nodes and records.
-fn nodes_line(out: &mut [u8], nodes: u64, records: u64) -> usize
-    requires { ⌜ 512 ≤ length (now out) ⌝ }
-    ensures { λ r. ⌜ Line (row (nodesWord ∷ numeral nodes ∷ sets ∷ numeral records ∷ [])) (now (out .entry)) (now (out .exit)) r ⌝ }
+// These two lines at the front of out.
+fn put_head(out: &mut [u8], c: Reply, v: Reply) -> usize
+    requires { ⌜ length (headText c v) ≤ length (now out) ⌝ }
+    ensures { λ o. ⌜ Written (headText c v) (now (out .entry)) (now (out .exit)) o ⌝ }
 {
-    let a = put_numbered(out, b"nodes", nodes);
-    let b = a + put_word(&mut out[a..], b"sets");
-    b + put_end(&mut out[b..], records)
+    let nodes = report_lines::nodes(c);
+    let verdict = report_lines::verdict(v);
+    let at = fields::put_line(out, &nodes);
+    at + fields::put_line(&mut out[at..], &verdict)
 }
 
-// The line of a verdict; the set 0 prints as a hyphen.
-fn verdict_line(
+// How many bytes a list takes: its line, and the lines of its sets.
+fn list_len(name: u64, letter: u64, r: Reply, sets: &[u64]) -> usize
+    requires { ⌜ length (now sets) ≤ 1024 ⌝ }
+    ensures { λ o. ⌜ Counted (listText (wordText name) (wordText letter) r (now (sets .entry))) 1119300 o ⌝ }
+{
+    let line = report_lines::listed(name, r);
+    fields::line_len(&line) + sets_len(letter, sets)
+}
+
+// A list at the front of out.
+fn put_list(out: &mut [u8], name: u64, letter: u64, r: Reply, sets: &[u64]) -> usize
+    requires { ⌜ length (listText (wordText name) (wordText letter) r (now sets)) ≤ length (now out) ⌝ }
+    ensures { λ o. ⌜ Written (listText (wordText name) (wordText letter) r (now (sets .entry))) (now (out .entry)) (now (out .exit)) o ⌝ }
+{
+    let line = report_lines::listed(name, r);
+    let at = fields::put_line(out, &line);
+    at + put_sets(&mut out[at..], letter, sets)
+}
+
+// The three parts of a report at the front of out, each into what is left of it.
+fn put_parts(
     out: &mut [u8],
-    number: u64,
-    answer: &[u8],
-    visits: u64,
-    first: u64,
-    second: u64,
+    c: Reply,
+    v: Reply,
+    m: Reply,
+    quorums: &[u64],
+    b: Reply,
+    blocks: &[u64],
 ) -> usize
-    requires { ⌜ (512 ≤ length (now out)) × (length (now answer) ≤ 3) ⌝ }
-    ensures { λ r. ⌜ Line (row (verdict ∷ numeral number ∷ now (answer .entry) ∷ numeral visits ∷ memberText first ∷ memberText second ∷ [])) (now (out .entry)) (now (out .exit)) r ⌝ }
+    requires { ⌜ length (allText c v m (now quorums) b (now blocks)) ≤ length (now out) ⌝ }
+    ensures { λ o. ⌜ Written (allText c v m (now (quorums .entry)) b (now (blocks .entry))) (now (out .entry)) (now (out .exit)) o ⌝ }
 {
-    let a = put_numbered(out, b"verdict", number);
-    let b = a + put_numbered(&mut out[a..], answer, visits);
-    b + put_pair(&mut out[b..], first, second)
+    let head = put_head(out, c, v);
+    let at = head + put_list(&mut out[head..], MINIMAL, Q, m, quorums);
+    at + put_list(&mut out[at..], BLOCKING, B, b, blocks)
 }
 
-// The line of a list, before its sets.
-fn list_line(out: &mut [u8], name: &[u8], number: u64, count: u64, visits: u64) -> usize
-    requires { ⌜ (512 ≤ length (now out)) × (length (now name) ≤ 8) ⌝ }
-    ensures { λ r. ⌜ Line (row (now (name .entry) ∷ numeral number ∷ numeral count ∷ numeral visits ∷ [])) (now (out .entry)) (now (out .exit)) r ⌝ }
+// The three parts of a report, if out has room for them.
+fn fill(
+    out: &mut [u8],
+    c: Reply,
+    v: Reply,
+    m: Reply,
+    quorums: &[u64],
+    b: Reply,
+    blocks: &[u64],
+) -> Wrote
+    requires { ⌜ (length (now quorums) ≤ 1024) × (length (now blocks) ≤ 1024) ⌝ }
+    ensures { λ o. ⌜ Put (allText c v m (now (quorums .entry)) b (now (blocks .entry))) (now (out .entry)) (now (out .exit)) (wroteSays o) ⌝ }
 {
-    let a = put_numbered(out, name, number);
-    let b = a + lines::put_field(&mut out[a..], count);
-    b + put_end(&mut out[b..], visits)
-}
-
-// The number of a fault, 1 to 7.
-fn fault_number(f: Fault) -> u64
-    ensures { λ r. ⌜ r ≡ faultSays f .number ⌝ }
-{
-    match f {
-        Fault::Count(_) => 1,
-        Fault::Control(_) => 2,
-        Fault::Level(_) => 3,
-        Fault::Nodes(_) => 4,
-        Fault::Threshold(_) => 5,
-        Fault::Member(_) => 6,
-        Fault::Entries(_) => 7,
+    let lists = list_len(MINIMAL, Q, m, quorums) + list_len(BLOCKING, B, b, blocks);
+    let need = head_len(c, v) + lists;
+    let count = need as u64;
+    if out.len() < need {
+        return Wrote::Short { count };
     }
+    put_parts(out, c, v, m, quorums, b, blocks);
+    Wrote::Bytes { count }
 }
 
-// The record or line that the fault is at.
-fn fault_place(f: Fault) -> u64
-    ensures { λ r. ⌜ r ≡ value (faultSays f) Place ⌝ }
+// The report on a table that was read.
+fn report_table(table: &[u64], out: &mut [u8]) -> Wrote
+    ensures { λ o. ⌜ Put (reportOn (now (table .entry))) (now (out .entry)) (now (out .exit)) (wroteSays o) ⌝ }
 {
-    match f {
-        Fault::Count(p) => p,
-        Fault::Control(p) => p,
-        Fault::Level(p) => p,
-        Fault::Nodes(p) => p,
-        Fault::Threshold(p) => p,
-        Fault::Member(p) => p,
-        Fault::Entries(p) => p,
+    let c = replies::of_checked(faults::check_table(table));
+    let v = replies::of_verdict(verdict::intersect(table, 0, ALLOWANCE));
+    let mut quorums = [0u64; 1024];
+    let m = minimal(table, &mut quorums);
+    let k = following(m);
+    let mut blocks = [0u64; 1024];
+    let b = blocking(table, &mut blocks);
+    let j = following(b);
+    fill(out, c, v, m, &quorums[..k], b, &blocks[..j])
+}
+
+// A bad sheet: one line.
+fn report_refused(r: Reply, out: &mut [u8]) -> Wrote
+    ensures { λ o. ⌜ Put (refusedLine (told r)) (now (out .entry)) (now (out .exit)) (wroteSays o) ⌝ }
+{
+    let line = report_lines::refused(r);
+    let need = fields::line_len(&line);
+    let count = need as u64;
+    if out.len() < need {
+        return Wrote::Short { count };
     }
+    fields::put_line(out, &line);
+    Wrote::Bytes { count }
 }
 
-// The nodes and records of a table that was checked.
-pub fn put_nodes(out: &mut [u8; 512], c: Checked) -> usize
-    ensures { λ k. ⌜ Line (nodesLine (checkedSays c)) (now (out .entry)) (now (out .exit)) k ⌝ }
+// The report on a sheet at the front of out: one line for a bad one, otherwise that on the table whose words were read.
+pub fn report(sheet: &[u8], out: &mut [u8]) -> Wrote
+    ensures { λ o. ⌜ ReportPromise (now (sheet .entry)) (now (out .entry)) (now (out .exit)) o ⌝ }
 {
-    match c {
-        Checked::Sound { nodes, records } => nodes_line(out, nodes, records),
-        Checked::Bad(_) => nodes_line(out, 0, 0),
-    }
-}
-
-// A sheet is turned away.
-pub fn put_refused(out: &mut [u8; 512], r: Read) -> usize
-    ensures { λ k. ⌜ Line (refusedLine (readSays r)) (now (out .entry)) (now (out .exit)) k ⌝ }
-{
-    match r {
-        Read::Words { count: _ } => refused_line(out, 0, 0),
-        Read::Short { count: _ } => refused_line(out, 10, 0),
-        Read::Malformed { line } => refused_line(out, 12, line),
-        Read::Bad(f) => refused_line(out, fault_number(f), fault_place(f)),
-    }
-}
-
-// Do all quorums intersect? A pair is there only with `no`.
-pub fn put_verdict(out: &mut [u8; 512], v: Verdict) -> usize
-    ensures { λ k. ⌜ Line (verdictLine (verdictSays v)) (now (out .entry)) (now (out .exit)) k ⌝ }
-{
-    match v {
-        Verdict::Yes { visits } => verdict_line(out, 0, b"yes", visits, 0, 0),
-        Verdict::No {
-            first,
-            second,
-            visits,
-        } => verdict_line(out, 0, b"no", visits, first, second),
-        Verdict::Spent { visits } => verdict_line(out, 9, b"-", visits, 0, 0),
-        Verdict::Unsplit => verdict_line(out, 13, b"-", 0, 0, 0),
-        Verdict::Outside => verdict_line(out, 8, b"-", 0, 0, 0),
-        Verdict::Bad(f) => verdict_line(out, fault_number(f), b"-", 0, 0, 0),
-    }
-}
-
-// A list of sets. The count is 0 where the allowance ended first, and the visits are where the sets had no room.
-fn put_listed(out: &mut [u8; 512], name: &[u8], l: Listed) -> usize
-    requires { ⌜ length (now name) ≤ 8 ⌝ }
-    ensures { λ k. ⌜ Line (listLine (now (name .entry)) (listedSays l)) (now (out .entry)) (now (out .exit)) k ⌝ }
-{
-    match l {
-        Listed::Sets { count, visits } => list_line(out, name, 0, count, visits),
-        Listed::Short { count } => list_line(out, name, 10, count, 0),
-        Listed::Spent { visits } => list_line(out, name, 9, 0, visits),
-        Listed::Unsplit => list_line(out, name, 13, 0, 0),
-        Listed::Bad(f) => list_line(out, name, fault_number(f), 0, 0),
-    }
-}
-
-// The minimal quorums, before their sets.
-pub fn put_minimal(out: &mut [u8; 512], l: Listed) -> usize
-    ensures { λ k. ⌜ Line (listLine minimal (listedSays l)) (now (out .entry)) (now (out .exit)) k ⌝ }
-{
-    put_listed(out, b"minimal", l)
-}
-
-// The minimal blocking sets, before them.
-pub fn put_blocking(out: &mut [u8; 512], l: Listed) -> usize
-    ensures { λ k. ⌜ Line (listLine blocking (listedSays l)) (now (out .entry)) (now (out .exit)) k ⌝ }
-{
-    put_listed(out, b"blocking", l)
-}
-
-// One set of a list, behind the letter of its list.
-pub fn put_one(out: &mut [u8], letter: &[u8], set: u64) -> usize
-    requires { ⌜ (512 ≤ length (now out)) × (length (now letter) ≤ 1) ⌝ }
-    ensures { λ k. ⌜ Line (setLine (now (letter .entry)) set) (now (out .entry)) (now (out .exit)) k ⌝ }
-{
-    let a = put_word(out, letter);
-    a + lines::put_last(&mut out[a..], set)
+    let mut table = [0u64; 512];
+    let read = sheets::read_sheet(sheet, &mut table);
+    let Read::Words { count } = read else {
+        return report_refused(replies::of_read(read), out);
+    };
+    let k = count as usize;
+    report_table(&table[..k], out)
 }

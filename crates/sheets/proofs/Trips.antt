@@ -8,7 +8,7 @@ use lib.ListN.{length, take, drop}
 use lib.Seq.{take-at}
 use Rattle.decimal.specs.Bytes.{atFront}
 use Rattle.meanings.specs.Faults.{check, sound}
-use Rattle.meanings.specs.Replies.{Reply, reply, _is_, value, valueIn, Count, leaves}
+use Rattle.meanings.specs.Replies.{Reply, reply, _is_, value, Count, leaves}
 use Rattle.meanings.specs.Questions.{onCheck}
 use Rattle.answers.specs.Said.{readSays, wroteSays}
 use Rattle.answers.specs.declared.Read.{Read}
@@ -59,7 +59,6 @@ filled-zero : (answer said : Reply) (own before after : List ℕ) → Filled ans
 filled-zero answer said own before after f e = f .holds ∙ ap (λ (k : ℕ). leaves k own before) e
 
 count-of : (n m : ℕ) → reply 0 (Count is n ∷ []) ≡ reply 0 (Count is m ∷ []) → n ≡ m
-unfolding valueIn
 count-of n m e = ap (λ (y : Reply). value y Count) e
 
 -- what was put at the front is found there

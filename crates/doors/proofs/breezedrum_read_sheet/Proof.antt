@@ -1,6 +1,6 @@
 -- The struct shows what the operation's answer says, and the buffer is as the operation leaves it.
 use mathlib.Core.Path.{subst}
-use Rattle.doors.specs.Doors.{Shows}
+use Rattle.replies.specs.Shows.{Shows}
 use borrow.Author.Needs.{needs}
 use Rattle.doors.proofs.breezedrum_read_sheet.Statement.{statement}
 use Rattle.doors.proofs.breezedrum_read_sheet.Tie as tie
