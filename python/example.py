@@ -3,11 +3,18 @@ import sys
 
 import breezedrum
 
-checker = breezedrum.Checker("target/libbreezedrum.so")
+ALLOWANCE = 1_000_000
+checker = breezedrum.Checker()
 with open(sys.argv[1], "rb") as sheet:
     read = checker.read_sheet(sheet.read())
 if read.number:
-    sys.exit(f"refused: number {read.number}, place {read.place}")
-print("verdict ", checker.verdict(read.words, 0, 1000000))
-print("minimal ", [bin(s) for s in checker.minimal(read.words, 1000000).words])
-print("blocking", [bin(s) for s in checker.blocking(read.words, 1000000).words])
+    sys.exit(f"refused: {read}")
+verdict = checker.verdict(read.words, (), ALLOWANCE)
+if verdict.number:
+    print("verdict ", verdict)
+elif verdict.yes:
+    print("verdict  yes, every two quorums share an archive")
+else:
+    print("verdict  no,", breezedrum.shown(verdict.first), "and", breezedrum.shown(verdict.second), "share no archive")
+for name, listed in ("minimal ", checker.minimal(read.words, ALLOWANCE)), ("blocking", checker.blocking(read.words, ALLOWANCE)):
+    print(name, listed if listed.number else "  ".join(map(breezedrum.shown, listed.words)))
