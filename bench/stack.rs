@@ -1,4 +1,4 @@
-// How much stack the searches take: the unused part of a thread's stack is painted before a question, and looked at after it.
+// How much stack each call takes: the unused part of a thread's stack is painted before a question, and looked at after it.
 use std::arch::asm;
 
 #[repr(C)]
@@ -8,7 +8,12 @@ struct Reply {
 }
 
 extern "C" {
+    fn breezedrum_check(table: *const u64, words: usize) -> Reply;
     fn breezedrum_read_sheet(sheet: *const u8, bytes: usize, table: *mut u64, words: usize) -> Reply;
+    fn breezedrum_write_sheet(table: *const u64, words: usize, sheet: *mut u8, bytes: usize) -> Reply;
+    fn breezedrum_quorum(table: *const u64, words: usize, out: u64, set: u64) -> Reply;
+    fn breezedrum_greatest(table: *const u64, words: usize, out: u64, set: u64) -> Reply;
+    fn breezedrum_blocks(table: *const u64, words: usize, set: u64, node: u64) -> Reply;
     fn breezedrum_verdict(table: *const u64, words: usize, out: u64, allowance: u64) -> Reply;
     fn breezedrum_minimal(table: *const u64, words: usize, allowance: u64, sets: *mut u64, room: usize) -> Reply;
     fn breezedrum_blocking(table: *const u64, words: usize, allowance: u64, sets: *mut u64, room: usize) -> Reply;
@@ -17,6 +22,7 @@ extern "C" {
 
 const DEPTH: usize = 512 * 1024;
 const PAINT: u8 = 0xa5;
+const NAMES: [&str; 10] = ["check", "read", "write", "quorum", "greatest", "blocks", "verdict", "minimal", "blocking", "intact"];
 
 #[inline(never)]
 fn below(question: &mut dyn FnMut()) -> usize {
@@ -35,34 +41,41 @@ fn below(question: &mut dyn FnMut()) -> usize {
     here - at
 }
 
+// The bytes of stack that each function takes on one sheet, in the order of NAMES.
+fn taken(sheet: &[u8]) -> [usize; 10] {
+    let (mut table, mut sets, mut text) = (vec![0u64; 512], vec![0u64; 1024], vec![0u8; 48128]);
+    let allowance = 100_000;
+    unsafe {
+        let (s, t) = (sheet.as_ptr(), table.as_mut_ptr());
+        let (l, x) = (sets.as_mut_ptr(), text.as_mut_ptr());
+        let n = breezedrum_read_sheet(s, sheet.len(), t, 512).words[9] as usize;
+        let nodes = breezedrum_check(t, n).words[2];
+        let all = u64::MAX >> (64 - nodes);
+        [
+            below(&mut || { breezedrum_check(t, n); }),
+            below(&mut || { breezedrum_read_sheet(s, sheet.len(), t, 512); }),
+            below(&mut || { breezedrum_write_sheet(t, n, x, 48128); }),
+            below(&mut || { breezedrum_quorum(t, n, 0, all); }),
+            below(&mut || { breezedrum_greatest(t, n, 0, all); }),
+            below(&mut || { breezedrum_blocks(t, n, 0, 0); }),
+            below(&mut || { breezedrum_verdict(t, n, 0, allowance); }),
+            below(&mut || { breezedrum_minimal(t, n, allowance, l, 1024); }),
+            below(&mut || { breezedrum_blocking(t, n, allowance, l, 1024); }),
+            below(&mut || { breezedrum_intact(t, n, 1, allowance); }),
+        ]
+    }
+}
+
+fn line(shape: &str, columns: impl Iterator<Item = String>) {
+    println!("{shape:14}{}", columns.map(|c| format!(" {c:>8}")).collect::<String>());
+}
+
 fn main() {
-    println!("{:14} {:>9} {:>9} {:>9} {:>9}", "shape", "verdict", "minimal", "blocking", "intact");
+    line("shape", NAMES.iter().map(|n| n.to_string()));
     for path in std::env::args().skip(1) {
         let sheet = std::fs::read(&path).expect("a sheet");
-        let mut table = [0u64; 512];
-        let read = unsafe { breezedrum_read_sheet(sheet.as_ptr(), sheet.len(), table.as_mut_ptr(), 512) };
-        let count = read.words[9] as usize;
-        let mut sets = vec![0u64; 1024];
-        let t = table.as_ptr();
-        let used: Vec<usize> = std::thread::Builder::new()
-            .stack_size(4 * DEPTH)
-            .spawn({
-                let (t, sets) = (t as usize, sets.as_mut_ptr() as usize);
-                move || unsafe {
-                    let (t, sets) = (t as *const u64, sets as *mut u64);
-                    let allowance = 100_000;
-                    vec![
-                        below(&mut || { breezedrum_verdict(t, count, 0, allowance); }),
-                        below(&mut || { breezedrum_minimal(t, count, allowance, sets, 1024); }),
-                        below(&mut || { breezedrum_blocking(t, count, allowance, sets, 1024); }),
-                        below(&mut || { breezedrum_intact(t, count, 1, allowance); }),
-                    ]
-                }
-            })
-            .unwrap()
-            .join()
-            .unwrap();
-        let shape = path.rsplit('/').next().unwrap().trim_end_matches(".sheet");
-        println!("{shape:14} {:9} {:9} {:9} {:9}", used[0], used[1], used[2], used[3]);
+        let thread = std::thread::Builder::new().stack_size(4 * DEPTH);
+        let used = thread.spawn(move || taken(&sheet)).unwrap().join().unwrap();
+        line(path.rsplit('/').next().unwrap().trim_end_matches(".sheet"), used.iter().map(|u| u.to_string()));
     }
 }

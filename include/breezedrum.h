@@ -4,6 +4,23 @@
  * number does not name a field. A number above 0 leaves every lent buffer as it was; an answer (number 0) writes only its own words or
  * bytes at the front. A table is a list of 64-bit words, two a record; a set of nodes is a mask, node i having the value 2^i.
  *
+ * Arguments come in one order: inputs (pointer, then length), then sets and numbers, then the allowance, then the lent buffer and its room.
+ *
+ * To build: `rt staticlib doors` proves the library and writes target/staticlib/libdoors.a, for x86-64 Linux. It needs nothing but memcpy
+ * and memset, which every C library has:
+ *
+ *   gcc -Iinclude -o target/yours yours.c target/staticlib/libdoors.a
+ *
+ * What a caller owes: a pointer is aligned for its type and good for its length (NULL with length 0 is fine), and a lent buffer overlaps
+ * neither an input nor another lent buffer. The proofs rest on this.
+ *
+ * Threads: nothing is kept between calls and there are no globals, so several threads may call at once. Two calls may read one input; a
+ * lent buffer belongs to one call until it returns.
+ *
+ * Stack (bench/stack): at most 38,584 bytes were measured for a list, 25,304 for a verdict or the intact nodes, 4,416 for reading a sheet,
+ * 1,560 for anything else, on tables of 64 nodes and 256 records whose searches go as deep as they can: the depth is bounded by the nodes,
+ * whatever the allowance. A thread with 64 KiB of stack is enough for these; the report was not measured.
+ *
  *   number  when                                                   also given
  *   0       answered                                               the question's own fields, below
  *   1       odd word count, no record, over 256                    place: 0; 257 for line 257 of a sheet
@@ -52,6 +69,10 @@ breezedrum_reply breezedrum_read_sheet(const uint8_t *sheet, size_t bytes, uint6
 
 /* Writes a table as a sheet into `sheet`, which has room for `bytes`. 0: count, the bytes written. 1 to 7; 10. */
 breezedrum_reply breezedrum_write_sheet(const uint64_t *table, size_t words, uint8_t *sheet, size_t bytes);
+
+/* Writes the report on a sheet into `out`, which has room for `room` bytes: what the report program prints, a bad sheet's `refused` line
+ * included. 0: count, the bytes written. 10. */
+breezedrum_reply breezedrum_report(const uint8_t *sheet, size_t bytes, uint8_t *out, size_t room);
 
 /* Is `set` a quorum, with `out` counted out? 0: answer. 1 to 7; 8. */
 breezedrum_reply breezedrum_quorum(const uint64_t *table, size_t words, uint64_t out, uint64_t set);
