@@ -19,12 +19,18 @@ pub struct Reply {
     pub visits: u64,
 }
 
+/// The nodes of a set, rising.
+pub fn ids(set: u64) -> Vec<u32> {
+    (0..64).filter(|node| set >> node & 1 == 1).collect()
+}
+
 mod doors {
     use super::Reply;
     extern "C" {
         pub fn breezedrum_check(table: *const u64, words: usize) -> Reply;
         pub fn breezedrum_read_sheet(sheet: *const u8, bytes: usize, table: *mut u64, words: usize) -> Reply;
         pub fn breezedrum_write_sheet(table: *const u64, words: usize, sheet: *mut u8, bytes: usize) -> Reply;
+        pub fn breezedrum_report(sheet: *const u8, bytes: usize, out: *mut u8, room: usize) -> Reply;
         pub fn breezedrum_quorum(table: *const u64, words: usize, out: u64, set: u64) -> Reply;
         pub fn breezedrum_greatest(table: *const u64, words: usize, out: u64, set: u64) -> Reply;
         pub fn breezedrum_blocks(table: *const u64, words: usize, set: u64, node: u64) -> Reply;
@@ -48,6 +54,11 @@ pub fn read_sheet(sheet: &[u8], table: &mut [u64]) -> Reply {
 /// Writes a table as a sheet into `sheet`.
 pub fn write_sheet(table: &[u64], sheet: &mut [u8]) -> Reply {
     unsafe { doors::breezedrum_write_sheet(table.as_ptr(), table.len(), sheet.as_mut_ptr(), sheet.len()) }
+}
+
+/// Writes the report on a sheet into `out`: what the report program prints, a bad sheet's one line included.
+pub fn report(sheet: &[u8], out: &mut [u8]) -> Reply {
+    unsafe { doors::breezedrum_report(sheet.as_ptr(), sheet.len(), out.as_mut_ptr(), out.len()) }
 }
 
 /// Is `set` a quorum, with `out` counted out?

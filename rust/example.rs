@@ -14,7 +14,7 @@ fn main() {
     let verdict = breezedrum::verdict(&table[..read.count as usize], 0, 1_000_000);
     match (verdict.number, verdict.answer) {
         (0, 1) => println!("every two quorums share an archive ({} visits)", verdict.visits),
-        (0, _) => println!("two quorums share none: {:#b} and {:#b}", verdict.first, verdict.second),
+        (0, _) => println!("two quorums share none: {:?} and {:?}", breezedrum::ids(verdict.first), breezedrum::ids(verdict.second)),
         (number, _) => println!("no answer: number {number}"),
     }
 }
