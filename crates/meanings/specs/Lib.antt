@@ -9,3 +9,4 @@ pub mod Questions
 pub mod Rows
 pub mod Points
 pub mod Further
+pub mod Readings

@@ -2,3 +2,4 @@ pub mod Lists
 pub mod Heads
 pub mod Runs
 pub mod Sound
+pub mod Bounds
