@@ -3,3 +3,4 @@ pub mod Allowance
 pub mod Split
 pub mod Meaning
 pub mod Root
+pub mod Demand

@@ -1,5 +1,5 @@
--- What an answer of the verdict means, for a table whose satisfaction is monotone, as every table's is: yes exactly when all quorums of the
--- rest intersect, no with two that do not, and stopped short exactly when the tree's walk is longer than the allowance.
+-- The search's answer keeps the promise. A table's satisfaction is monotone, so the theory of the verdict's tree speaks of it: a yes is said
+-- only where all quorums of the rest intersect, and a no with two that do not. Demand says what follows for whoever is answered.
 use mathlib.Core.Path.{_≡_, sym, ap, _∙_, subst}
 use mathlib.Core.Bool.{Bool, true, false}
 use mathlib.Core.List.{List, []}
@@ -7,7 +7,6 @@ use Prim.Native.Nat.{ℕ, suc, _^_, _≤_, _<_}
 use native.Mathlib.Nat.{zero-add}
 use native.Mathlib.Omega.{arith}
 use mathlib.Core.Logic.{⊎-elim}
-use Rattle.sets.proofs.Bools.{clash}
 use Rattle.sets.proofs.Size.{le-or-lt}
 use borrow.Author.Tests.{le-leb, lt-leb}
 use Rattle.sets.specs.Sets.{size}
@@ -72,26 +71,10 @@ kind Unsplit = 3
 kind Outside = 4
 kind (Bad f) = 5
 
-plain-kept : (w : Walk Pair) → kind (plain w) ≡ 2 → ⊥
-plain-kept (missed k) e = omega arith
-plain-kept (hit p k) e = omega arith
-plain-kept (stuck k) e = omega arith
-
 -- an answer that is not Spent is the answer without an allowance
 answered : (allowance : ℕ) (w : Walk Pair) (v : Verdict) → within allowance 0 w ≡ v → ¬ (kind v ≡ 2) → plain w ≡ v
 answered allowance w v e f =
     ⊎-elim (λ l. sym (in-time allowance w l) ∙ e) (λ l. absurd (f (sym (ap kind (sym (too-late allowance w l) ∙ e))))) (le-or-lt (count w) allowance)
-
--- A larger allowance never alters a yes or a pair once given.
-pub larger-allowance : (a b : ℕ) (w : Walk Pair) (v : Verdict) → a ≤ b → within a 0 w ≡ v → ¬ (kind v ≡ 2) → within b 0 w ≡ v
-larger-allowance a b w v l e f =
-    ⊎-elim (λ (m : count w ≤ a). in-time b w (omega arith) ∙ answered a w v e f)
-    (λ m. absurd (f (sym (ap kind (sym (too-late a w m) ∙ e))))) (le-or-lt (count w) a)
-
--- It stops short exactly when the walk is longer than the allowance.
-pub spent-exactly : (a : ℕ) (w : Walk Pair) → (within a 0 w ≡ Spent a → a < count w) × (a < count w → within a 0 w ≡ Spent a)
-spent-exactly a w =
-    ((λ e. ⊎-elim (λ l. absurd (plain-kept w (ap kind (sym (in-time a w l) ∙ e)))) (λ l. l) (le-or-lt (count w) a)), too-late a w)
 
 module _ (t : List ℕ) (d allowance : ℕ) where
   abbrev n : ℕ
@@ -132,28 +115,16 @@ module _ (t : List ℕ) (d allowance : ℕ) where
             i,
           )
 
-  -- with allowance enough, a yes where all quorums intersect and a no where they do not
-  pub says-yes : count (walk (verdictTree n s d)) ≤ allowance → intersecting n s d ≡ true → (k : ℕ) × (answer ≡ Yes k)
-  says-yes l e = go (decided n s d (satisfied-monotone t))
-    where
-      go : Decided n s d (satisfied-monotone t) → (k : ℕ) × (answer ≡ Yes k)
-      go (all-meet j w i few) = (j, in-time allowance (walk (verdictTree n s d)) l ∙ ap plain w)
-      go (two-apart x j w z i few) = clash (intersecting n s d) e i
+-- the walk of the verdict's tree takes no more than 2 ^ (a + 1) - 1 visits, where a nodes are not counted out
+pub visits-few : (t : List ℕ) (d : ℕ) → suc (count (walk (verdictTree (nodes t) (satisfied t) d))) ≤ 2 ^ suc (size (nodes t) (ground (nodes t) (satisfied t) d))
+visits-few t d = go (decided (nodes t) (satisfied t) d (satisfied-monotone t))
+  where
+    few : Walk Pair → Type 0
+    few w = suc (count w) ≤ 2 ^ suc (size (nodes t) (ground (nodes t) (satisfied t) d))
 
-  pub says-no : count (walk (verdictTree n s d)) ≤ allowance → intersecting n s d ≡ false → (p q k : ℕ) × (answer ≡ No p q k)
-  says-no l e = go (decided n s d (satisfied-monotone t))
-    where
-      go : Decided n s d (satisfied-monotone t) → (p q k : ℕ) × (answer ≡ No p q k)
-      go (all-meet j w i few) = clash (intersecting n s d) i e
-      go (two-apart x j w z i few) = (x .first, x .second, j, in-time allowance (walk (verdictTree n s d)) l ∙ ap plain w)
-
-  -- No tree over a nodes has more than 2 ^ (a + 1) - 1 visits; number 13 never comes.
-  pub visits-few : suc (count (walk (verdictTree n s d))) ≤ 2 ^ suc (size n (ground n s d))
-  visits-few = go (decided n s d (satisfied-monotone t))
-    where
-      go : Decided n s d (satisfied-monotone t) → suc (count (walk (verdictTree n s d))) ≤ 2 ^ suc (size n (ground n s d))
-      go (all-meet j w i few) = subst (λ (x : Walk Pair). suc (count x) ≤ 2 ^ suc (size n (ground n s d))) (sym w) few
-      go (two-apart x j w z i few) = subst (λ (x : Walk Pair). suc (count x) ≤ 2 ^ suc (size n (ground n s d))) (sym w) few
+    go : Decided (nodes t) (satisfied t) d (satisfied-monotone t) → few (walk (verdictTree (nodes t) (satisfied t) d))
+    go (all-meet j w i l) = subst few (sym w) l
+    go (two-apart x j w z i l) = subst few (sym w) l
 
 -- Two answers that both fit the promise are equal.
 pub verdict-unique : (t : List ℕ) (d allowance : ℕ) (x y : Verdict) → VerdictPromise t d allowance x → VerdictPromise t d allowance y → x ≡ y
