@@ -15,18 +15,17 @@ use Rattle.sets.proofs.Bools.{either}
 use Rattle.sets.proofs.Members.{everyone-lt, within-lt}
 use Rattle.sets.proofs.Size.{le-or-lt, size-le}
 use Rattle.meanings.specs.Table.{nodes, satisfied}
-use Rattle.meanings.specs.Faults.{Check, sound, fault, check}
 use Rattle.meanings.specs.Quorums.{intersecting, disjointQuorums, intactNodes}
-use Rattle.meanings.specs.Trees.{Pair}
 use Rattle.meanings.specs.Intact.{Ended, intactAre, divided, stuckAfter, intactSearch}
-use Rattle.meanings.specs.Replies.{Reply, Named, rank}
-use Rattle.meanings.specs.Questions.{onCheck, inNodes, intactReply, intactSays as replySays}
-use Rattle.theory.proofs.Verdict.{Sound, sound-disjoint}
+use Rattle.meanings.specs.Replies.{Reply, reply, _is_, Set, First, Second, Visits, value, valueIn}
+use Rattle.meanings.specs.Questions.{inAllowance, intactReply, intactSays as replySays}
+use Rattle.theory.proofs.Verdict.{sound-disjoint}
 use Rattle.theory.proofs.Intact.{start, rounds-answer, intact-answer, intact-divided}
+use Rattle.theory.proofs.Numbers.{Further, Opened, opened, past-opening, in-allowance, over-allowance}
 use Rattle.judge.proofs.Monotone.{satisfied-monotone}
 use Rattle.answers.specs.Said.{intactSays}
 use Rattle.answers.specs.declared.Intact.{Intact}
-use Rattle.answers.specs.declared.Intact.the-variants.{Are, Divided, Spent, Unsplit, Outside, Bad}
+use Rattle.answers.specs.declared.Intact.the-variants.{Are, Divided, Spent, Unsplit}
 use Rattle.answers.proofs.Exact.{intact-exact}
 use Rattle.intact.specs.Rounds.{within, roundsOf}
 use Rattle.intact.specs.Promise.{IntactPromise}
@@ -65,76 +64,35 @@ says-within allowance e =
     late (divided p k) m = rw (lt-leb k allowance m)
     late (stuckAfter k) m = rw (lt-leb k allowance m)
 
--- the kinds of answers
-abbrev pub kind : Intact → ℕ
-kind (Are q k) = 0
-kind (Divided a b k) = 1
-kind (Spent k) = 2
-kind Unsplit = 3
-kind Outside = 4
-kind (Bad f) = 5
+-- the reply is the answer without an allowance, where that comes within the allowance
+pub says-plain : (allowance : ℕ) (e : Ended) → replySays allowance e ≡ inAllowance allowance (visitsOf e) (intactSays (plain e))
+says-plain allowance (intactAre q k) = refl
+says-plain allowance (divided p k) = refl
+says-plain allowance (stuckAfter k) = refl
 
-abbrev kindOf : Ended → ℕ
-kindOf (intactAre q k) = 0
-kindOf (divided p k) = 1
-kindOf (stuckAfter k) = 3
-
-plain-kind : (e : Ended) → kind (plain e) ≡ kindOf e
-plain-kind (intactAre q k) = refl
-plain-kind (divided p k) = refl
-plain-kind (stuckAfter k) = refl
-
-kind-kept : (e : Ended) → kindOf e ≡ 2 → ⊥
-kind-kept (intactAre q k) z = omega arith
-kind-kept (divided p k) z = omega arith
-kind-kept (stuckAfter k) z = omega arith
-
--- an answer that is not 9 is the answer without an allowance, and in time
-pub answered : (allowance : ℕ) (e : Ended) (r : Intact) → r ≡ within allowance 0 e → ¬ (kind r ≡ 2) → (plain e ≡ r) × (visitsOf e ≤ allowance)
-answered allowance e r w f =
-    ⊎-elim (λ l. (sym (in-time allowance e l) ∙ sym w, l)) (λ l. absurd (f (ap kind (w ∙ too-late allowance e l)))) (le-or-lt (visitsOf e) allowance)
-
--- ---- what comes before the search: numbers 1 to 8 name other fields than its answers
-abbrev opening : List Named → ℕ
-opening [] = 10
-opening (x ∷ l) = rank (x .field)
-
--- the answers that the search gives
-abbrev FromSearch : Intact → Type 0
-FromSearch (Are q k) = Unit {0}
-FromSearch (Divided a b k) = Unit {0}
-FromSearch (Spent k) = Unit {0}
-FromSearch Unsplit = Unit {0}
-FromSearch Outside = ⊥
-FromSearch (Bad f) = ⊥
-
-names-other : (r : Intact) → FromSearch r → opening (intactSays r .names) ≡ 0 → ⊥
-names-other (Are q k) w e = omega arith
-names-other (Divided a b k) w e = omega arith
-names-other (Spent k) w e = omega arith
-names-other Unsplit w e = omega arith
-names-other Outside w e = w
-names-other (Bad f) w e = w
-
-not-eight : (r : Intact) → FromSearch r → intactSays r .number ≡ 8 → ⊥
-not-eight (Are q k) w e = omega arith
-not-eight (Divided a b k) w e = omega arith
-not-eight (Spent k) w e = omega arith
-not-eight Unsplit w e = omega arith
-not-eight Outside w e = w
-not-eight (Bad f) w e = w
-
-after-check : (c : Check) (x : Reply) (r : Intact) → FromSearch r → intactSays r ≡ onCheck c x → (c ≡ sound) × (intactSays r ≡ x)
-after-check sound x r w e = (refl, e)
-after-check (fault k p) x r w e = absurd (names-other r w (ap (λ (y : Reply). opening (y .names)) e))
-
-after-inside : (b : Bool) (x : Reply) (r : Intact) → FromSearch r → intactSays r ≡ inNodes b x → (b ≡ true) × (intactSays r ≡ x)
-after-inside true x r w e = (refl, e)
-after-inside false x r w e = absurd (not-eight r w (ap (λ (y : Reply). y .number) e))
-
--- the end of the search, whatever the allowance
+-- the end of the search, whatever the allowance, and the visits of all its verdicts up to there
 abbrev pub endingOf : List ℕ → ℕ → Ended
 endingOf t ill = intactSearch (nodes t) (satisfied t) ill
+
+abbrev pub allVisits : List ℕ → ℕ → ℕ
+allVisits t ill = visitsOf (endingOf t ill)
+
+-- a sound table, and an ill set of its nodes
+abbrev pub Asked : List ℕ → ℕ → Type 0
+Asked t ill = Opened t (liesWithin ill (everyone (nodes t)))
+
+abbrev pub numberOf : Reply → ℕ
+numberOf r = r .number
+
+-- ---- what is replied to whoever asks so: an answer, with what it means, or number 9
+pub data Meant (t : List ℕ) (ill : ℕ) (r : Reply) : Type 0 where
+  intact : intersecting (nodes t) (satisfied t) nobody ≡ true → r ≡ reply 0 (Set is intactNodes (nodes t) (satisfied t) ill ∷ Visits is allVisits t ill ∷ []) → Meant t ill r
+  apart : (p q : ℕ) → disjointQuorums (nodes t) (satisfied t) nobody p q ≡ true → intersecting (nodes t) (satisfied t) nobody ≡ false
+      → r ≡ reply 11 (First is p ∷ Second is q ∷ Visits is allVisits t ill ∷ []) → Meant t ill r
+
+pub data Outcome (t : List ℕ) (ill allowance : ℕ) (r : Reply) : Type 0 where
+  answered : allVisits t ill ≤ allowance → Meant t ill r → Outcome t ill allowance r
+  stopped : allowance < allVisits t ill → r ≡ reply 9 (Visits is allowance ∷ []) → Outcome t ill allowance r
 
 module _ (t : List ℕ) (ill : ℕ) where
   abbrev n : ℕ
@@ -147,64 +105,80 @@ module _ (t : List ℕ) (ill : ℕ) where
   ending = endingOf t ill
 
   -- the search ends with the intact nodes where all plain quorums intersect, and with two of them apart elsewhere
-  pub ends-intact : liesWithin ill (everyone n) ≡ true → intersecting n s nobody ≡ true → (k : ℕ) × (ending ≡ intactAre (intactNodes n s ill) k)
-  ends-intact h i = intact-answer n s (satisfied-monotone t) ill (within-lt n ill (everyone n) (everyone-lt n) h) i
+  meant : liesWithin ill (everyone n) ≡ true → Meant t ill (intactSays (plain ending))
+  meant h = ⊎-elim all-meet two-apart (either (intersecting n s nobody))
+    where
+      -- the end, with the visits by their name
+      said : (x : ℕ → Ended) (k : ℕ) → ((j : ℕ) → visitsOf (x j) ≡ j) → ending ≡ x k → intactSays (plain ending) ≡ intactSays (plain (x (allVisits t ill)))
+      said x k f e = ap (λ (y : Ended). intactSays (plain y)) (e ∙ ap x (sym (ap visitsOf e ∙ f k)))
 
-  pub ends-divided : intersecting n s nobody ≡ false → (x : Pair) × (k : ℕ) × Sound n s nobody x × (ending ≡ divided x k)
-  ends-divided i = intact-divided n s (satisfied-monotone t) ill i
+      all-meet : intersecting n s nobody ≡ true → Meant t ill (intactSays (plain ending))
+      all-meet i =
+          let w = intact-answer n s (satisfied-monotone t) ill (within-lt n ill (everyone n) (everyone-lt n) h) i in
+          intact i (said (intactAre (intactNodes n s ill)) (w .0) (λ j. refl) (w .1))
+
+      two-apart : intersecting n s nobody ≡ false → Meant t ill (intactSays (plain ending))
+      two-apart i =
+          let w = intact-divided n s (satisfied-monotone t) ill i in
+          apart (w .0 .first) (w .0 .second) (sound-disjoint n s nobody (satisfied-monotone t) (w .0) (w .2)) i (said (divided (w .0)) (w .1) (λ j. refl) (w .3))
 
   module _ (allowance : ℕ) where
-    -- whoever is told an answer of the search has a sound table, an ill set of its nodes, and the search's answer
-    searched : (r : Intact) → FromSearch r → intactSays r ≡ intactReply t ill allowance
-        → (check t ≡ sound) × (liesWithin ill (everyone n) ≡ true) × (r ≡ within allowance 0 ending)
+    pub outcome : Asked t ill → Outcome t ill allowance (intactReply t ill allowance)
     unfolding intactReply
-    searched r w e =
-        let a = after-check (check t) (inNodes (liesWithin ill (everyone n)) (replySays allowance ending)) r w e in
-        let b = after-inside (liesWithin ill (everyone n)) (replySays allowance ending) r w (a .1) in
-        (a .0, b .0, intact-exact r (within allowance 0 ending) (b .1 ∙ sym (says-within allowance ending)))
-
-    answer-means : (r : Intact) → intactSays r ≡ intactReply t ill allowance
-        → (q k : ℕ) → r ≡ Are q k → (q ≡ intactNodes n s ill) × (intersecting n s nobody ≡ true)
-    answer-means r e q k f =
-        let a = searched (Are q k) tt (sym (ap intactSays f) ∙ e) in
-        let b = answered allowance ending (Are q k) (a .2) (λ z. omega arith) .0 in
+    outcome a =
+        let x = intactSays (plain ending) in
+        let e = past-opening t (liesWithin ill (everyone n)) (replySays allowance ending) a ∙ says-plain allowance ending in
         ⊎-elim
-        (λ i. let w = ends-intact (a .1) i in
-        let c : Are (intactNodes n s ill) (w .0) ≡ Are q k = sym (ap plain (w .1)) ∙ b in
-        let d : intactNodes n s ill ≡ q = cc in
-        (sym d, i))
-        (λ i. let w = ends-divided i in
-        let c : Divided (w .0 .first) (w .0 .second) (w .1) ≡ Are q k = sym (ap plain (w .3)) ∙ b in
-        let d : _≡_ {A = ℕ} 1 0 = ap kind c in
-        let f : ⊥ = omega arith in
-        absurd f)
-        (either (intersecting n s nobody))
+        (λ l. answered l (subst (Meant t ill) (sym (e ∙ in-allowance allowance (allVisits t ill) x l)) (meant (a .among))))
+        (λ l. stopped l (e ∙ over-allowance allowance (allVisits t ill) x l))
+        (le-or-lt (allVisits t ill) allowance)
 
-    pair-means : (r : Intact) → intactSays r ≡ intactReply t ill allowance
-        → (p q k : ℕ) → r ≡ Divided p q k → (disjointQuorums n s nobody p q ≡ true) × (intersecting n s nobody ≡ false)
-    pair-means r e p q k f =
-        let a = searched (Divided p q k) tt (sym (ap intactSays f) ∙ e) in
-        let b = answered allowance ending (Divided p q k) (a .2) (λ z. omega arith) .0 in
-        ⊎-elim
-        (λ i. let w = ends-intact (a .1) i in
-        let c : Are (intactNodes n s ill) (w .0) ≡ Divided p q k = sym (ap plain (w .1)) ∙ b in
-        let d : _≡_ {A = ℕ} 0 1 = ap kind c in
-        let f : ⊥ = omega arith in
-        absurd f)
-        (λ i. let w = ends-divided i in
-        let x = w .0 in
-        let c : Divided (x .first) (x .second) (w .1) ≡ Divided p q k = sym (ap plain (w .3)) ∙ b in
-        let f : x .first ≡ p = cc in
-        let g : x .second ≡ q = cc in (
-          subst (λ (m : ℕ). disjointQuorums n s nobody p m ≡ true) g
-              (subst (λ (m : ℕ). disjointQuorums n s nobody m (x .second) ≡ true) f (sound-disjoint n s nobody (satisfied-monotone t) x (w .2))),
-          i,
-        ))
-        (either (intersecting n s nobody))
+    pub asked : Further (intactReply t ill allowance .number) → Asked t ill
+    unfolding intactReply
+    asked = opened t (liesWithin ill (everyone n)) (replySays allowance ending)
+
+    -- the reply in full, by its number
+    abbrev R : Reply
+    R = intactReply t ill allowance
+
+    pub number-0 : R .number ≡ 0
+        → (allVisits t ill ≤ allowance) × (intersecting n s nobody ≡ true) × (R ≡ reply 0 (Set is intactNodes n s ill ∷ Visits is allVisits t ill ∷ []))
+    number-0 e = go (outcome (asked (λ (l : 1 ≤ R .number). omega arith)))
+      where
+        go : Outcome t ill allowance R
+            → (allVisits t ill ≤ allowance) × (intersecting n s nobody ≡ true) × (R ≡ reply 0 (Set is intactNodes n s ill ∷ Visits is allVisits t ill ∷ []))
+        go (answered l (intact i f)) = (l, i, f)
+        go (answered l (apart p q z i f)) = let y : R .number ≡ 11 = ap numberOf f in absurd (omega arith)
+        go (stopped l f) = let y : R .number ≡ 9 = ap numberOf f in absurd (omega arith)
+
+    pub number-11 : R .number ≡ 11
+        → (p q : ℕ) × (allVisits t ill ≤ allowance) × (disjointQuorums n s nobody p q ≡ true) × (intersecting n s nobody ≡ false)
+        × (R ≡ reply 11 (First is p ∷ Second is q ∷ Visits is allVisits t ill ∷ []))
+    number-11 e = go (outcome (asked (λ (l : 1 ≤ R .number). omega arith)))
+      where
+        go : Outcome t ill allowance R
+            → (p q : ℕ) × (allVisits t ill ≤ allowance) × (disjointQuorums n s nobody p q ≡ true) × (intersecting n s nobody ≡ false)
+            × (R ≡ reply 11 (First is p ∷ Second is q ∷ Visits is allVisits t ill ∷ []))
+        go (answered l (intact i f)) = let y : R .number ≡ 0 = ap numberOf f in absurd (omega arith)
+        go (answered l (apart p q z i f)) = (p, q, l, z, i, f)
+        go (stopped l f) = let y : R .number ≡ 9 = ap numberOf f in absurd (omega arith)
 
     -- what is told carries its meaning
-    pub promised : (r : Intact) → intactSays r ≡ intactReply t ill allowance → IntactPromise t ill allowance r
-    promised r e = record { told = e; means = answer-means r e; divided-means = pair-means r e }
+    pub promised : (r : Intact) → intactSays r ≡ R → IntactPromise t ill allowance r
+    unfolding valueIn
+    promised r e =
+        record {
+          told = e;
+          means = λ q k f.
+              let z : reply 0 (Set is q ∷ Visits is k ∷ []) ≡ R = sym (ap intactSays f) ∙ e in
+              let w = number-0 (sym (ap numberOf z)) in
+              (ap (λ (x : Reply). value x Set) (z ∙ w .2), w .1);
+          divided-means = λ p q k f.
+              let z : reply 11 (First is p ∷ Second is q ∷ Visits is k ∷ []) ≡ R = sym (ap intactSays f) ∙ e in
+              let w = number-11 (sym (ap numberOf z)) in
+              let y = z ∙ w .5 in
+              (subst (λ (x : Reply). disjointQuorums n s nobody (value x First) (value x Second) ≡ true) (sym y) (w .3), w .4);
+        }
 
 -- ---- the rounds by themselves: where all plain quorums intersect, from all nodes outside the ill set they end with the intact nodes,
 -- after fewer than 2 ^ (n + 2) visits
@@ -228,80 +202,6 @@ module _ (t : List ℕ) (ill : ℕ) (h : liesWithin ill (everyone (nodes t)) ≡
     where
       in-turn : within allowance spent (intactAre (intactNodes (nodes t) (satisfied t) ill) (rounds-end .0)) ≡ Are (intactNodes (nodes t) (satisfied t) ill) (spent + rounds-end .0)
       in-turn = rw (le-leb (spent + rounds-end .0) allowance l)
-
--- ---- the theorems
-module _ (t : List ℕ) (ill allowance : ℕ) (r : Intact) (p : IntactPromise t ill allowance r) where
-  -- a table that is sound and an ill set of its nodes: the answer is the search's
-  pub answer-is : check t ≡ sound → liesWithin ill (everyone (nodes t)) ≡ true → r ≡ within allowance 0 (endingOf t ill)
-  unfolding intactReply
-  answer-is c h =
-      intact-exact r (within allowance 0 (endingOf t ill))
-      (p .told
-      ∙ ap (λ (x : Check). onCheck x (inNodes (liesWithin ill (everyone (nodes t))) (replySays allowance (endingOf t ill)))) c
-      ∙ ap (λ (b : Bool). inNodes b (replySays allowance (endingOf t ill))) h
-      ∙ sym (says-within allowance (endingOf t ill)))
-
-  -- 0, with exactly the nodes that some DSet around the ill set leaves out, where all plain quorums intersect and the visits are within
-  -- the allowance
-  pub says-intact : check t ≡ sound → liesWithin ill (everyone (nodes t)) ≡ true → intersecting (nodes t) (satisfied t) nobody ≡ true
-      → visitsOf (endingOf t ill) ≤ allowance → r ≡ Are (intactNodes (nodes t) (satisfied t) ill) (visitsOf (endingOf t ill))
-  says-intact c h i l =
-      let w = ends-intact t ill h i in
-      answer-is c h ∙ in-time allowance (endingOf t ill) l ∙ ap plain (w .1)
-      ∙ ap (Are (intactNodes (nodes t) (satisfied t) ill)) (sym (ap visitsOf (w .1)))
-
-  -- 11, where two plain quorums have no node in common
-  pub says-divided : check t ≡ sound → liesWithin ill (everyone (nodes t)) ≡ true → intersecting (nodes t) (satisfied t) nobody ≡ false
-      → visitsOf (endingOf t ill) ≤ allowance → (a b : ℕ) × (r ≡ Divided a b (visitsOf (endingOf t ill)))
-  says-divided c h i l =
-      let w = ends-divided t ill i in (
-        w .0 .first,
-        w .0 .second,
-        answer-is c h ∙ in-time allowance (endingOf t ill) l ∙ ap plain (w .3)
-            ∙ ap (Divided (w .0 .first) (w .0 .second)) (sym (ap visitsOf (w .3))),
-      )
-
-  -- 9 exactly when the sum of the visits is above the allowance, and then with the allowance
-  pub nine-only : (k : ℕ) → r ≡ Spent k → (check t ≡ sound) × (liesWithin ill (everyone (nodes t)) ≡ true) × (allowance < visitsOf (endingOf t ill)) × (k ≡ allowance)
-  nine-only k e =
-      let a = searched t ill allowance (Spent k) tt (sym (ap intactSays e) ∙ p .told) in
-      ⊎-elim
-      (λ l. absurd (kind-kept (endingOf t ill) (sym (plain-kind (endingOf t ill)) ∙ ap kind (sym (in-time allowance (endingOf t ill) l) ∙ sym (a .2)))))
-      (λ l. let z : Spent k ≡ Spent allowance = a .2 ∙ too-late allowance (endingOf t ill) l in
-      let q : k ≡ allowance = cc in
-      (a .0, a .1, l, q))
-      (le-or-lt (visitsOf (endingOf t ill)) allowance)
-
-  pub nine-whenever : check t ≡ sound → liesWithin ill (everyone (nodes t)) ≡ true → allowance < visitsOf (endingOf t ill) → r ≡ Spent allowance
-  nine-whenever c h l = answer-is c h ∙ too-late allowance (endingOf t ill) l
-
-  -- 13 never comes
-  pub never-unsplit : ¬ (r ≡ Unsplit)
-  never-unsplit e =
-      let a = searched t ill allowance Unsplit tt (sym (ap intactSays e) ∙ p .told) in
-      let b = answered allowance (endingOf t ill) Unsplit (a .2) (λ z. omega arith) .0 in
-      let k : kindOf (endingOf t ill) ≡ 3 = sym (plain-kind (endingOf t ill)) ∙ ap kind b in
-      ⊎-elim
-      (λ i. let z : _≡_ {A = ℕ} 0 3 = sym (ap kindOf (ends-intact t ill (a .1) i .1)) ∙ k in omega arith)
-      (λ i. let z : _≡_ {A = ℕ} 1 3 = sym (ap kindOf (ends-divided t ill i .3)) ∙ k in omega arith)
-      (either (intersecting (nodes t) (satisfied t) nobody))
-
--- A larger allowance never alters an answer: only 9 can change.
-larger : (a b : ℕ) (c : Check) (i : Bool) (e : Ended) (x y : Intact) → a ≤ b → ¬ (kind x ≡ 2)
-    → intactSays x ≡ onCheck c (inNodes i (replySays a e)) → intactSays y ≡ onCheck c (inNodes i (replySays b e)) → x ≡ y
-larger a b (fault k p) i e x y l f v w = intact-exact x y (v ∙ sym w)
-larger a b sound false e x y l f v w = intact-exact x y (v ∙ sym w)
-larger a b sound true e x y l f v w =
-    let x-is = intact-exact x (within a 0 e) (v ∙ sym (says-within a e)) in
-    let y-is = intact-exact y (within b 0 e) (w ∙ sym (says-within b e)) in
-    let z = answered a e x x-is f in
-    let m = z .1 in
-    sym (z .0) ∙ sym (in-time b e (omega arith)) ∙ sym y-is
-
-pub larger-allowance : (t : List ℕ) (ill a b : ℕ) (x y : Intact) → IntactPromise t ill a x → IntactPromise t ill b y → a ≤ b → ¬ (kind x ≡ 2) → x ≡ y
-unfolding intactReply
-larger-allowance t ill a b x y p q l f =
-    larger a b (check t) (liesWithin ill (everyone (nodes t))) (intactSearch (nodes t) (satisfied t) ill) x y l f (p .told) (q .told)
 
 -- Two answers that both fit the promise are equal.
 pub intact-unique : (t : List ℕ) (ill allowance : ℕ) (x y : Intact) → IntactPromise t ill allowance x → IntactPromise t ill allowance y → x ≡ y
