@@ -37,7 +37,7 @@ use Rattle.intact.proofs.Meaning.{plain, says-plain, endingOf, allVisit
 abbrev pub bound : List ℕ → ℕ
 bound t = 3 * 2 ^ suc (nodes t)
 
-few-visits : (t : List ℕ) (ill : ℕ) → liesWithin ill (everyone (nodes t)) ≡ true → suc (allVisits t ill) < bound t
+pub few-visits : (t : List ℕ) (ill : ℕ) → liesWithin ill (everyone (nodes t)) ≡ true → suc (allVisits t ill) < bound t
 few-visits t ill h = go (decided (nodes t) (satisfied t) nobody (satisfied-monotone t))
   where
     plainly : (k : ℕ) → suc k ≤ 2 ^ suc (size (nodes t) (ground (nodes t) (satisfied t) nobody)) → suc k ≤ 2 ^ suc (nodes t)

@@ -6,7 +6,7 @@ use mathlib.Core.Bool.{Bool, true, false, cond}
 use mathlib.Core.List.{List, [], _∷_, _++_}
 use Prim.Native.Nat.{ℕ, suc, _+_, _^_, _≤_}
 use native.Mathlib.Omega.{arith}
-use borrow.Author.Tests.{leb-true, le-leb, ltb-false}
+use borrow.Author.Tests.{leb-true, ltb-false}
 use lib.Dec.{leb, ltb}
 use lib.ListN.{length, drop}
 use Rattle.sets.specs.Sets.{everyone, size}
@@ -15,11 +15,12 @@ use Rattle.meanings.specs.Table.{nodes, satisfied}
 use Rattle.meanings.specs.Faults.{Check, sound, fault, check}
 use Rattle.meanings.specs.Quorums.{minimalQuorums, minimalBlockingSets}
 use Rattle.meanings.specs.Trees.{Listing, listed, broken, list, minimalTree, blockingTree}
-use Rattle.meanings.specs.Replies.{Reply, reply, _is_, Count, Visits, leaves, value}
-use Rattle.meanings.specs.Questions.{onCheck, listSays, listPuts, minimalReply, blockingReply}
+use Rattle.meanings.specs.Replies.{Reply, reply, _is_, Count, Visits, leaves, value, valueIn}
+use Rattle.meanings.specs.Questions.{onCheck, inRoom, listSays, listPuts, minimalReply, blockingReply}
 use Rattle.theory.proofs.Walks.{visits}
 use Rattle.theory.proofs.Minimal.{minimal-listed, minimal-visits}
 use Rattle.theory.proofs.Blocking.{blocking-listed, blocking-visits}
+use Rattle.theory.proofs.Numbers.{OnlyNine, larger-says, after-check}
 use Rattle.judge.proofs.Monotone.{satisfied-monotone}
 use Rattle.answers.specs.declared.Listed.{Listed}
 use Rattle.answers.specs.declared.Listed.the-variants.{Sets, Unsplit}
@@ -39,18 +40,11 @@ pub exact : (r : Reply) (own before a b : List ℕ) (x y : Listed) → Promised 
 exact r own before a b x y p q = (listed-exact x y (p .answers ∙ sym (q .answers)), p .lent ∙ sym (q .lent))
 
 -- ---- a larger allowance alters no answer: only number 9 depends on it
-more-says : (k : Check) (a b room : ℕ) (L : Listing ℕ) → a ≤ b → ¬ (onCheck k (listSays a room L) .number ≡ 9) → onCheck k (listSays b room L) ≡ onCheck k (listSays a room L)
-more-says (fault j p) a b room L h n = refl
-more-says sound a b room (listed l j) h n = go (leb j a) refl n
-  where
-    go : (x : Bool) → leb j a ≡ x → ¬ (listSays a room (listed l j) .number ≡ 9) → listSays b room (listed l j) ≡ listSays a room (listed l j)
-    go true e z = let m = leb-true j a e in rw (e, le-leb j b (omega arith))
-    go false e z = absurd (z (rw e))
-more-says sound a b room (broken j) h n = go (leb j a) refl n
-  where
-    go : (x : Bool) → leb j a ≡ x → ¬ (listSays a room (broken j) .number ≡ 9) → listSays b room (broken j) ≡ listSays a room (broken j)
-    go true e z = let m = leb-true j a e in rw (e, le-leb j b (omega arith))
-    go false e z = absurd (z (rw e))
+pub more-says : (k : Check) (a b room : ℕ) (L : Listing ℕ) → a ≤ b → OnlyNine (onCheck k (listSays a room L)) (onCheck k (listSays b room L))
+more-says k a b room (listed l j) h =
+    after-check k (listSays a room (listed l j)) (listSays b room (listed l j))
+    (larger-says a b j (inRoom room (length l) (reply 0 (Count is length l ∷ Visits is j ∷ []))) h)
+more-says k a b room (broken j) h = after-check k (listSays a room (broken j)) (listSays b room (broken j)) (larger-says a b j (reply 13 []) h)
 
 module _ (t before after : List ℕ) (a b : ℕ) (h : a ≤ b) (o : Listed) (n : ¬ (listedSays o .number ≡ 9)) where
   larger : (own : List ℕ) (L : Listing ℕ) → Promised (onCheck (check t) (listSays a (length before) L)) own before after o
