@@ -1,8 +1,8 @@
 -- What is left of the turns falls. Assumes nothing.
 use Prim.Native.Nat.{_≤_}
 use borrow.Author.Needs.{needs}
-use Rattle.papers.proofs.all_sheets.Statement.{statement}
-use Rattle.papers.proofs.all_sheets.Tie as tie
+use Rattle.stored.proofs.all_sheets.Statement.{statement}
+use Rattle.stored.proofs.all_sheets.Tie as tie
 
 abbrev Inv-loop : tie.InvT-loop
 Inv-loop s at₀ left₀ at left = left ≤ 256

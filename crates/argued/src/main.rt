@@ -1,0 +1,4 @@
+// The report program, run with an argument: nothing is read and nothing reported.
+fn main() {
+    command::run();
+}
