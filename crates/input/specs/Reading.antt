@@ -1,4 +1,4 @@
--- What can be said of reading: counts that lie within what was lent. Assumes nothing.
+-- What can be said of reading: what the system's answer means, and that counts lie within what was lent. Assumes nothing.
 use Prim.Native.Nat.{ℕ, _≤_, _<_}
 use mathlib.Core.Path.{_≡_}
 use mathlib.Core.List.{List}
@@ -14,7 +14,7 @@ abbrev pub Below : ℤ → Type 0
 Below (pos k) = ⊥
 Below (negsuc k) = Unit {0}
 
--- the answer of a read, errno and the tries left, from which it comes to a step
+-- from which answer, errno and tries left a read comes to a step: 0 is the end, a number below 0 a failure, and 4 is EINTR
 abbrev pub Means : Step → ℤ → ℤ → ℕ → Type 0
 Means (Sx.More count) got error tries = (0 < count) × (got ≡ pos count)
 Means Sx.End got error tries = got ≡ pos 0

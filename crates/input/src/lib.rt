@@ -1,7 +1,7 @@
 // Reading to the end of the input, and knowing a failure from the end: of half a sheet nothing may be answered.
 //
-// Which bytes a read puts into the buffer, and whether one fails, the system's contract does not say. What can be promised is that the
-// count lies within the buffer, and that reading ends.
+// Which bytes a read puts into the buffer, and whether one fails, the system's contract does not say. What can be promised is what its
+// answer is taken to mean, that the count lies within the buffer, and that reading ends.
 ghost use lib.ListN.{length};
 ghost use Rattle.input.specs.Reading.{Goes, Means, Within};
 

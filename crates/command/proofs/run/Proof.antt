@@ -41,6 +41,7 @@ fail-requires c κs = search needs
 returns-2 : tie.Need-returns-2
 returns-2 c = search needs
 
+-- the bytes that are lent lie within the buffer
 counted : (c : tie.After-known-told) → Counts (c .before .got .given .0 .0) (c .before .before .before .before .read-all .last .1 .0)
 counted c = bytes-counted _ _ _ (c .before .before .before .before .read-all .ensures) (c .before .got .given .1)
 

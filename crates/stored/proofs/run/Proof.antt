@@ -23,6 +23,7 @@ enum-told c = search needs
 returns : tie.Need-returns
 returns c = search needs
 
+-- the bytes that are lent lie within the buffer
 counted : (c : tie.After-known-told) → Counts (c .before .got .given .0 .0) (c .before .before .before .before .read-all .last .1 .0)
 counted c = bytes-counted _ _ _ (c .before .before .before .before .read-all .ensures) (c .before .got .given .1)
 
