@@ -3,9 +3,11 @@
 use input::Got;
 use libc::STDERR_FILENO;
 use libc::STDIN_FILENO;
+use printing::Shown;
 
 // The report on the sheet that standard input holds: its first 65,536 bytes, which give the same report as all. Of half a sheet nothing
-// may be answered, so where a read fails there is a line on standard error and no report. An argument is not a sheet.
+// may be answered, so where a read fails there is a line on standard error and no report; a write that fails ends the report, and is told there
+// too. An argument is not a sheet.
 pub fn run() {
     if os::arg_count() > 1 {
         io::write_all(STDERR_FILENO, b"usage: breezedrum < SHEET\n");
@@ -17,5 +19,9 @@ pub fn run() {
         os::fail(b"breezedrum: standard input");
         return;
     };
-    shown::show_report(&sheet[..count]);
+    let shown = printing::show_report(&sheet[..count]);
+    let Shown::Up { to: _ } = shown else {
+        os::fail(b"breezedrum: standard output");
+        return;
+    };
 }

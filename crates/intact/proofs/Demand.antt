@@ -18,7 +18,7 @@ use Rattle.meanings.specs.Faults.{check}
 use Rattle.meanings.specs.Quorums.{ground, intersecting, disjointQuorums, intactNodes}
 use Rattle.meanings.specs.Trees.{hit, missed}
 use Rattle.meanings.specs.Intact.{endedLater}
-use Rattle.meanings.specs.Replies.{Reply, reply, _is_, Set, First, Second, Visits, value, valueIn}
+use Rattle.meanings.specs.Replies.{Reply, reply, _is_, Set, First, Second, Visits, value}
 use Rattle.meanings.specs.Questions.{inNodes, intactReply, intactSays as searchSays}
 use Rattle.theory.proofs.Verdict.{Decided, all-meet, two-apart, decided}
 use Rattle.theory.proofs.Intact.{search-step}
@@ -68,26 +68,22 @@ module _ (t : List ℕ) (ill : ℕ) where
     -- ---- of the reply
     -- An answer is exactly the nodes that some DSet around the ill set leaves out, of a system whose plain quorums all intersect.
     pub intact-exactly : R .number ≡ 0 → (value R Set ≡ intactNodes (nodes t) (satisfied t) ill) × (intersecting (nodes t) (satisfied t) nobody ≡ true)
-    unfolding valueIn
     intact-exactly e = let w = number-0 t ill allowance e in (ap (λ (x : Reply). value x Set) (w .2), w .1)
 
     -- 11 hands over two plain quorums with no node in common.
     pub eleven-apart : R .number ≡ 11
         → (disjointQuorums (nodes t) (satisfied t) nobody (value R First) (value R Second) ≡ true) × (intersecting (nodes t) (satisfied t) nobody ≡ false)
-    unfolding valueIn
     eleven-apart e =
         let w = number-11 t ill allowance e in
         (ap (λ (x : Reply). disjointQuorums (nodes t) (satisfied t) nobody (value x First) (value x Second)) (w .5) ∙ w .3, w .4)
 
     -- The visits of either are those of all verdicts together, and within the allowance.
     pub visits-are : (R .number ≡ 0) ⊎ (R .number ≡ 11) → (value R Visits ≡ allVisits t ill) × (allVisits t ill ≤ allowance)
-    unfolding valueIn
     visits-are (inl e) = let w = number-0 t ill allowance e in (ap (λ (x : Reply). value x Visits) (w .2), w .0)
     visits-are (inr e) = let w = number-11 t ill allowance e in (ap (λ (x : Reply). value x Visits) (w .5), w .2)
 
     -- It stops short exactly when the verdicts together take more visits than were allowed, and then reports the allowance.
     pub nine-only : R .number ≡ 9 → Asked t ill × (allowance < allVisits t ill) × (value R Visits ≡ allowance)
-    unfolding valueIn
     nine-only e = let a = asked t ill allowance (λ (l : 1 ≤ R .number). omega arith) in go a (outcome t ill allowance a)
       where
         go : Asked t ill → Outcome t ill allowance R → Asked t ill × (allowance < allVisits t ill) × (value R Visits ≡ allowance)
@@ -153,7 +149,6 @@ module _ (t : List ℕ) (ill allowance : ℕ) (r : Intact) (p : IntactPromise t 
       (w .0, w .1, intact-exact r (Divided (w .0) (w .1) (allVisits t ill)) (p .told ∙ w .5), w .3)
 
   pub spent-only : (k : ℕ) → r ≡ Spent k → Asked t ill × (allowance < allVisits t ill) × (k ≡ allowance)
-  unfolding valueIn
   spent-only k e =
       let f : reply 9 (Visits is k ∷ []) ≡ intactReply t ill allowance = sym (ap intactSays e) ∙ p .told in
       let w = nine-only t ill allowance (sym (ap numberOf f)) in

@@ -17,7 +17,7 @@ use Rattle.sets.proofs.Size.{le-or-lt, size-le}
 use Rattle.meanings.specs.Table.{nodes, satisfied}
 use Rattle.meanings.specs.Quorums.{intersecting, disjointQuorums, intactNodes}
 use Rattle.meanings.specs.Intact.{Ended, intactAre, divided, stuckAfter, intactSearch}
-use Rattle.meanings.specs.Replies.{Reply, reply, _is_, Set, First, Second, Visits, value, valueIn}
+use Rattle.meanings.specs.Replies.{Reply, reply, _is_, Set, First, Second, Visits, value}
 use Rattle.meanings.specs.Questions.{inAllowance, intactReply, intactSays as replySays}
 use Rattle.theory.proofs.Verdict.{sound-disjoint}
 use Rattle.theory.proofs.Intact.{start, rounds-answer, intact-answer, intact-divided}
@@ -165,7 +165,6 @@ module _ (t : List ℕ) (ill : ℕ) where
 
     -- what is told carries its meaning
     pub promised : (r : Intact) → intactSays r ≡ R → IntactPromise t ill allowance r
-    unfolding valueIn
     promised r e =
         record {
           told = e;

@@ -13,7 +13,7 @@ use Rattle.meanings.specs.Table.{nodes, satisfied}
 use Rattle.meanings.specs.Faults.{Check, sound, check}
 use Rattle.meanings.specs.Quorums.{minimalQuorums, minimalBlockingSets}
 use Rattle.meanings.specs.Trees.{Listing, listed, list, minimalTree, blockingTree}
-use Rattle.meanings.specs.Replies.{Reply, reply, _is_, Count, Visits, value, valueIn}
+use Rattle.meanings.specs.Replies.{Reply, reply, _is_, Count, Visits, value}
 use Rattle.meanings.specs.Questions.{onCheck, inAllowance, inRoom, listSays, minimalReply, blockingReply}
 use Rattle.theory.proofs.Walks.{visits}
 use Rattle.theory.proofs.Minimal.{minimal-listed, minimal-visits}
@@ -80,7 +80,6 @@ module _ (t : List ℕ) (L : Listing ℕ) (l : List ℕ) (steps : ℕ) (all : L 
     found h = let c = table-sound t (listSays allowance room L) h in (c, outcome c)
 
     answer-only : R .number ≡ 0 → (check t ≡ sound) × (steps ≤ allowance) × (length l ≤ room) × (value R Count ≡ length l) × (value R Visits ≡ steps)
-    unfolding valueIn
     answer-only e = go (found (λ (k : 1 ≤ R .number). omega arith))
       where
         go : (check t ≡ sound) × Outcome l steps allowance room R
@@ -98,7 +97,6 @@ module _ (t : List ℕ) (L : Listing ℕ) (l : List ℕ) (steps : ℕ) (all : L 
         go (stopped m f) = absurd (omega arith)
 
     nine-only : R .number ≡ 9 → (check t ≡ sound) × (allowance < steps) × (value R Visits ≡ allowance)
-    unfolding valueIn
     nine-only e = go (found (λ (k : 1 ≤ R .number). omega arith))
       where
         go : (check t ≡ sound) × Outcome l steps allowance room R → (check t ≡ sound) × (allowance < steps) × (value R Visits ≡ allowance)
@@ -115,7 +113,6 @@ module _ (t : List ℕ) (L : Listing ℕ) (l : List ℕ) (steps : ℕ) (all : L 
         go (stopped m f) = ap numberOf f
 
     ten-only : R .number ≡ 10 → (check t ≡ sound) × (steps ≤ allowance) × (room < length l) × (value R Count ≡ length l)
-    unfolding valueIn
     ten-only e = go (found (λ (k : 1 ≤ R .number). omega arith))
       where
         go : (check t ≡ sound) × Outcome l steps allowance room R → (check t ≡ sound) × (steps ≤ allowance) × (room < length l) × (value R Count ≡ length l)

@@ -27,7 +27,7 @@ fn sheet_at(s: &[u8]) -> usize {
         return all;
     }
     let end = 2 + length;
-    shown::show_report(&s[2..end]);
+    printing::show_report(&s[2..end]);
     end
 }
 

@@ -14,7 +14,7 @@ use Rattle.meanings.specs.Table.{nodes, satisfied}
 use Rattle.meanings.specs.Faults.{check}
 use Rattle.meanings.specs.Quorums.{ground, intersecting, disjointQuorums}
 use Rattle.meanings.specs.Trees.{Pair, Walk, hit, missed, stuck, verdictTree, walk}
-use Rattle.meanings.specs.Replies.{Reply, reply, _is_, Answer, First, Second, Visits, value, valueIn}
+use Rattle.meanings.specs.Replies.{Reply, reply, _is_, Answer, First, Second, Visits, value}
 use Rattle.meanings.specs.Questions.{inNodes, inAllowance, verdictReply, verdictSays as searchSays}
 use Rattle.theory.proofs.Verdict.{Decided, all-meet, two-apart, decided, sound-disjoint}
 use Rattle.theory.proofs.Numbers.{Further, Opened, opened, past-opening, in-allowance, over-allowance, OnlyNine, larger-says, after-check, after-nodes}
@@ -111,7 +111,6 @@ module _ (t : List ℕ) (d : ℕ) where
     -- ---- of the reply
     -- Where it answers, it says yes exactly when every two quorums of the rest share a node.
     pub yes-exactly : R .number ≡ 0 → (value R Answer ≡ 1 → intersecting n s d ≡ true) × (intersecting n s d ≡ true → value R Answer ≡ 1)
-    unfolding valueIn
     yes-exactly e = go (number-0 e .1)
       where
         go : Meant t d R → (value R Answer ≡ 1 → intersecting n s d ≡ true) × (intersecting n s d ≡ true → value R Answer ≡ 1)
@@ -123,7 +122,6 @@ module _ (t : List ℕ) (d : ℕ) where
     -- Otherwise it hands over two quorums of the rest with no node in common.
     pub otherwise-apart : R .number ≡ 0 → ¬ (value R Answer ≡ 1)
         → (value R Answer ≡ 0) × (disjointQuorums n s d (value R First) (value R Second) ≡ true) × (intersecting n s d ≡ false)
-    unfolding valueIn
     otherwise-apart e h = go (number-0 e .1)
       where
         go : Meant t d R → (value R Answer ≡ 0) × (disjointQuorums n s d (value R First) (value R Second) ≡ true) × (intersecting n s d ≡ false)
@@ -136,7 +134,6 @@ module _ (t : List ℕ) (d : ℕ) where
 
     -- The visits of an answer are the stated tree's, and within the allowance.
     pub visits-are : R .number ≡ 0 → (value R Visits ≡ visitsOf t d) × (visitsOf t d ≤ allowance)
-    unfolding valueIn
     visits-are e = let w = number-0 e in (go (w .1), w .0)
       where
         go : Meant t d R → value R Visits ≡ visitsOf t d
@@ -145,7 +142,6 @@ module _ (t : List ℕ) (d : ℕ) where
 
     -- It stops short exactly when the stated tree takes more visits than were allowed, and then reports the allowance.
     pub nine-only : R .number ≡ 9 → Asked t d × (allowance < visitsOf t d) × (value R Visits ≡ allowance)
-    unfolding valueIn
     nine-only e = let a = asked (λ (l : 1 ≤ R .number). omega arith) in go a (outcome a)
       where
         go : Asked t d → Outcome t d allowance R → Asked t d × (allowance < visitsOf t d) × (value R Visits ≡ allowance)
@@ -217,7 +213,6 @@ module _ (t : List ℕ) (d allowance : ℕ) (r : Verdict) (p : VerdictPromise t 
       go (no a b z j f) = (a, b, verdict-exact r (No a b (visitsOf t d)) (p .told ∙ f), z)
 
   pub spent-only : (k : ℕ) → r ≡ Spent k → Asked t d × (allowance < visitsOf t d) × (k ≡ allowance)
-  unfolding valueIn
   spent-only k e =
       let f : reply 9 (Visits is k ∷ []) ≡ verdictReply t d allowance = sym (ap verdictSays e) ∙ p .told in
       let w = nine-only t d allowance (sym (ap numberOf f)) in
