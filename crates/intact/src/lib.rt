@@ -147,7 +147,7 @@ fn intact_of(t: &[u64], nodes: u64, ill: u64, allowance: u64) -> Intact
     ensures { λ o. ⌜ o ≡ within allowance 0 (intactSearch (nodesOf (now (t .entry))) (satisfied (now (t .entry))) ill) ⌝ }
 {
     let mut plan = [0u64; 192];
-    plans::plan(t, nodes, &mut plan);
+    plans::plan(t, &mut plan);
     let all = sets::all(nodes);
     verdict_then_rounds(t, &plan, all, ill, allowance)
 }

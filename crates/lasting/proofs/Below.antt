@@ -15,8 +15,7 @@ use Rattle.meanings.specs.Quorums.{quorum, greatest, holdsQuorum}
 use Rattle.theory.proofs.Quorum.{Monotone, ∪-grows, Quorum, quorum-is}
 use Rattle.theory.proofs.Greatest.{greatest-lt, greatest-sub, greatest-apart, greatest-quorum, quorum-greatest, greatest-holds, holds-greatest}
 use Rattle.judge.proofs.Monotone.{satisfied-monotone}
-use Rattle.groups.specs.Groups.{whereTrue}
-use Rattle.lasting.specs.Lasting.{holding, Waiting, Apart, Due, Closed, Striking}
+use Rattle.lasting.specs.Lasting.{whereTrue, holding, Waiting, Apart, Due, Closed, Striking}
 
 -- ---- whether all that must stay are in it
 pub held : (must g x : ℕ) → x ≡ holding must g → ¬ (x ≡ nobody) → (within must g ≡ true) × (x ≡ g)

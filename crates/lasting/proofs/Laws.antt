@@ -21,9 +21,8 @@ use Rattle.theory.proofs.Quorum.{Monotone, ∪-grows}
 use Rattle.theory.proofs.Greatest.{greatest-lt, greatest-from, greatest-sub, greatest-has, greatest-grows, greatest-unique}
 use Rattle.tables.proofs.Sound.{sound-table}
 use Rattle.judge.proofs.Monotone.{satisfied-monotone}
-use Rattle.groups.specs.Groups.{whereTrue}
 use Rattle.plans.specs.Plans.{Planned, likeAt, touchedAt}
-use Rattle.lasting.specs.Lasting.{holding, Waiting, Due, Striking}
+use Rattle.lasting.specs.Lasting.{whereTrue, holding, Waiting, Due, Striking}
 
 -- ---- striking, for any monotone satisfaction
 module _ (n : ℕ) (s : ℕ → ℕ → Bool) (mono : Monotone s) (d : ℕ) where

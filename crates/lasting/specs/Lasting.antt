@@ -1,12 +1,16 @@
 -- What is known of a set of nodes while nodes are struck from it, and what is asked for: the greatest quorum within it, where certain nodes
 -- are all in it.
 use mathlib.Core.Path.{_≡_}
-use mathlib.Core.Bool.{true, false}
+use mathlib.Core.Bool.{Bool, true, false}
 use mathlib.Core.List.{List}
 use Prim.Native.Nat.{ℕ, _<_, _^_}
-use Rattle.sets.specs.Sets.{has, only, _∪_, _∖_, within}
+use Rattle.sets.specs.Sets.{has, nobody, only, _∪_, _∖_, within}
 use Rattle.meanings.specs.Table.{nodes, satisfied}
-use Rattle.groups.specs.Groups.{whereTrue}
+
+-- m, where a test holds, and otherwise nobody
+abbrev pub whereTrue : Bool → ℕ → ℕ
+whereTrue true m = m
+whereTrue false m = nobody
 
 -- the greatest quorum g, where it has each of those that must stay; otherwise nobody
 abbrev pub holding : ℕ → ℕ → ℕ

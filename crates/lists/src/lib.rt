@@ -58,7 +58,7 @@ fn answer(table: &[u64], sought: Sought, allowance: u64, lent: &mut [u64]) -> Li
         return Listed::Bad(quorums::fault_of(checked));
     };
     let mut plan = [0u64; 192];
-    plans::plan(table, nodes, &mut plan);
+    plans::plan(table, &mut plan);
     let all = sets::all(nodes);
     let s = Search {
         sought,

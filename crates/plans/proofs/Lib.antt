@@ -1,2 +1,3 @@
+pub mod SameSets
 pub mod Naming
 pub mod Planning

@@ -15,13 +15,12 @@ use Rattle.sets.specs.Sets.{size, _∪_, _∩_}
 use Rattle.sets.proofs.Bools.{either}
 use Rattle.sets.proofs.Members.{In, Sub, ∪-left, ∪-right, ∩-in, ∩-out}
 use Rattle.sets.proofs.Size.{le-or-lt, sub-size}
-use Rattle.meanings.specs.Table.{records, members, threshold, level, satisfies}
+use Rattle.meanings.specs.Table.{records, members, threshold, level, headOf, satisfies}
 use Rattle.meanings.specs.Faults.{check, sound}
 use Rattle.tables.proofs.Runs.{innerFrom, from-stop, from-hit, from-miss, from-deeper}
 use Rattle.judge.proofs.Laws.{judged-last, judged-more}
-use Rattle.groups.specs.Groups.{recordAt}
-use Rattle.groups.specs.Alike.{setEnds}
-use Rattle.groups.proofs.Alike.{from-last}
+use Rattle.plans.specs.Alike.{setEnds}
+use Rattle.plans.proofs.SameSets.{from-last}
 use Rattle.plans.specs.Named.{Names, namesAt, NamedTo}
 
 -- ---- walks with two tests
@@ -127,14 +126,13 @@ module _ (t : List ℕ) (m r e : ℕ) (W : Whole t m r e) where
   pub whole-names : check t ≡ sound → Names t m r
   whole-names sd u u' kept = let b = W .begins in stays sd u u' kept 3 r (omega arith) b
 
--- ---- the names of one group more are written
-pub one-named : (t grouped names : List ℕ) (n x : ℕ) → n < length names → NamedTo t grouped names n → Names t x (recordAt grouped n)
-    → NamedTo t grouped (set names n x) (n + 1)
-one-named t grouped names n x l N w g h =
+-- ---- the names of one node more are written
+pub one-named : (t names : List ℕ) (n x : ℕ) → n < length names → NamedTo t names n → Names t x (headOf t n) → NamedTo t (set names n x) (n + 1)
+one-named t names n x l N w v h =
     ⊎-elim
-    (λ (q : n ≤ g).
-    let d : n ≡ g = omega arith in
-    subst (λ (k : ℕ). Names t (namesAt (set names n x) k) (recordAt grouped k)) d
-    (subst (λ (m : ℕ). Names t m (recordAt grouped n)) (sym (getD-set-same names n x 0 l)) w))
-    (λ (q : g < n). subst (λ (m : ℕ). Names t m (recordAt grouped g)) (sym (getD-set-other names n g x 0 (λ e. omega arith))) (N g q))
-    (le-or-lt n g)
+    (λ (q : n ≤ v).
+    let d : n ≡ v = omega arith in
+    subst (λ (k : ℕ). Names t (namesAt (set names n x) k) (headOf t k)) d
+    (subst (λ (m : ℕ). Names t m (headOf t n)) (sym (getD-set-same names n x 0 l)) w))
+    (λ (q : v < n). subst (λ (m : ℕ). Names t m (headOf t v)) (sym (getD-set-other names n v x 0 (λ e. omega arith))) (N v q))
+    (le-or-lt n v)

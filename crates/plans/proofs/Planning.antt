@@ -1,5 +1,5 @@
--- A plan of the nodes so far takes in one more. Its record is judged for its group; and a node that is in no touched group names none of
--- those alike in its quorum set, so that it loses nobody named when they are struck.
+-- A plan of the nodes so far takes in one more. Its record is judged for all that are alike; and a node that is not touched names none
+-- of them in its quorum set, so that it loses nobody named when they are struck.
 use mathlib.Core.Path.{_≡_, sym, ap, _∙_, subst}
 use mathlib.Core.Bool.{true, false}
 use mathlib.Core.Logic.{⊎-elim}
@@ -8,46 +8,36 @@ use Prim.Native.Nat.{ℕ, suc, _+_, _*_, _<_, _≤_}
 use native.Mathlib.Omega.{arith}
 use lib.ListN.{length, getD, set}
 use lib.Seq.{getD-set-same, getD-set-other, lt-length-set}
-use Rattle.sets.specs.Sets.{has, nobody, _∪_, _∩_}
+use Rattle.sets.specs.Sets.{has, nobody, only, _∪_, _∩_}
 use Rattle.sets.proofs.Bools.{clash, fails}
-use Rattle.sets.proofs.Members.{In, ∪-left, ∪-right, ∩-in, none-in}
+use Rattle.sets.proofs.Members.{In, ∪-left, ∪-right, ∪-cases, ∩-in, only-in, only-out, none-in}
 use Rattle.sets.proofs.Size.{le-or-lt}
-use Rattle.meanings.specs.Table.{records, nodes, satisfies, satisfied}
+use Rattle.meanings.specs.Table.{records, nodes, headOf, satisfies, satisfied}
+use Rattle.tables.proofs.Heads.{head-in}
 use Rattle.tables.proofs.Sound.{sound-table}
-use Rattle.groups.specs.Groups.{Grouped, recordAt, nodesAt}
 use Rattle.plans.specs.Plans.{PlannedTo, Untouched, headAt, likeAt, touchedAt}
-use Rattle.plans.specs.Named.{namesAt, TouchedTo, FirstWith, Planning}
+use Rattle.plans.specs.Alike.{Alike, LikeNode}
+use Rattle.plans.specs.Named.{namesAt, TouchedTo, Planning}
 
--- ---- the first group that has a node
-
--- none of the first n groups has node v
-abbrev pub Without : List ℕ → ℕ → ℕ → Type 0
-Without grouped v n = (g : ℕ) → g < n → has (nodesAt grouped g) v ≡ false
-
--- so one that has it is ahead
-pub ahead : (grouped : List ℕ) (v n : ℕ) → Without grouped v n → (g : ℕ) → In (nodesAt grouped g) v → n ≤ g
-ahead grouped v n f g p = ⊎-elim (λ h. h) (λ h. clash (has (nodesAt grouped g) v) p (f g h)) (le-or-lt n g)
-
--- ---- one group more is looked at
-module _ (grouped names : List ℕ) (like m n : ℕ) (T : TouchedTo grouped names like m n) where
+-- ---- one node more is looked at
+module _ (names : List ℕ) (like m n : ℕ) (T : TouchedTo names like m n) where
   -- it names none of those struck
-  pub touched-same : namesAt names n ∩ like ≡ nobody → TouchedTo grouped names like m (n + 1)
-  touched-same e g i l p q =
+  pub touched-same : namesAt names n ∩ like ≡ nobody → TouchedTo names like m (n + 1)
+  touched-same e i l q =
       ⊎-elim
-      (λ (h : n ≤ g). let d : g ≡ n = omega arith in ap (λ (k : ℕ). namesAt names k ∩ like) d ∙ e)
-      (λ h. T g i h p q)
-      (le-or-lt n g)
+      (λ (h : n ≤ i). let d : i ≡ n = omega arith in ap (λ (k : ℕ). namesAt names k ∩ like) d ∙ e)
+      (λ h. T i h q)
+      (le-or-lt n i)
 
-  -- or its nodes join those touched
-  pub touched-more : TouchedTo grouped names like (m ∪ nodesAt grouped n) (n + 1)
-  touched-more g i l p q =
-      let m' = nodesAt grouped n in
+  -- or it joins those touched
+  pub touched-more : TouchedTo names like (m ∪ only n) (n + 1)
+  touched-more i l q =
       ⊎-elim
-      (λ (h : n ≤ g).
-      let d : g ≡ n = omega arith in
-      clash (has (m ∪ m') i) (∪-right m m' i (subst (λ (k : ℕ). In (nodesAt grouped k) i) d p)) q)
-      (λ h. T g i h p (fails (has m i) (λ w. clash (has (m ∪ m') i) (∪-left m m' i w) q)))
-      (le-or-lt n g)
+      (λ (h : n ≤ i).
+      let d : n ≡ i = omega arith in
+      clash (has (m ∪ only n) i) (∪-right m (only n) i (subst (In (only n)) d (only-in n))) q)
+      (λ h. T i h (fails (has m i) (λ w. clash (has (m ∪ only n) i) (∪-left m (only n) i w) q)))
+      (le-or-lt n i)
 
 -- ---- the three words of a node
 
@@ -122,45 +112,45 @@ module _ (plan : List ℕ) (v head like touched : ℕ) (room : 3 * v + 2 < lengt
       of-nodes t three (suc v) (λ w l.
       ⊎-elim (λ (h : v ≤ w). node-written t N w (omega arith)) (λ h. node-kept t w h (by-node t plan v P w h)) (le-or-lt v w))
 
+-- ---- those alike
+
+pub itself-alone : (t : List ℕ) (v : ℕ) → LikeNode t v (only v)
+itself-alone t v =
+    record { itself = only-in v; alike = λ i p w. ap (λ (k : ℕ). satisfies 3 t w (headOf t k)) (only-out i v p) }
+
+pub one-alike : (t : List ℕ) (v m i : ℕ) → LikeNode t v m → Alike t (headOf t i) (headOf t v) → LikeNode t v (m ∪ only i)
+one-alike t v m i L a =
+    record {
+      itself = ∪-left m (only i) v (L .itself);
+      alike = λ k p w.
+          ⊎-elim (λ q. L .alike k q w) (λ q. ap (λ (j : ℕ). satisfies 3 t w (headOf t j)) (only-out k i q) ∙ a w) (∪-cases m (only i) k p);
+    }
+
 -- ---- the next node
-module _ {t grouped names plan : List ℕ} {groups v : ℕ} (P : Planning t grouped groups names plan v) where
-  abbrev G : Grouped t grouped groups
-  G = P .in-groups
+module _ {t heads names plan : List ℕ} {n v : ℕ} (P : Planning t heads n names plan v) where
+  pub few-nodes : n ≤ 64
+  few-nodes = let m = sound-table t (P .headed .checked) .nodes-le in omega (arith, P .all-nodes)
 
-  pub node-lt : v < 64
-  node-lt = let n = sound-table t (G .checked) .nodes-le in omega (arith, P .node)
+  -- a node that is not touched names none of those struck
+  untouched : (like m : ℕ) → TouchedTo names like m n → (i : ℕ) → i < nodes t → has m i ≡ false → Untouched t like i
+  unfolding satisfied
+  untouched like m T i l q u u' f =
+      let h : i < n = omega (arith, P .all-nodes) in
+      P .named i h u u'
+      (λ j a b. ⊎-elim (λ x. x) (λ x. none-in (namesAt names i ∩ like) j (T i h q) (∩-in (namesAt names i) like j b x)) (f j a))
 
-  -- some group has it
-  pub held : (g : ℕ) × (2 * g + 1 < length grouped) × (has (nodesAt grouped g) v ≡ true)
-  held = let c = G .covers v (P .node) in (c .0, (let f = G .fits in omega (arith, c .1)), c .2)
-
-  first-lt : (g : ℕ) → FirstWith grouped v g → g < groups
-  first-lt g F = let c = G .covers v (P .node) in let h = F .first (c .0) (c .2) in omega (arith, c .1)
-
-  pub group-in : (g : ℕ) → FirstWith grouped v g → 2 * g + 1 < length grouped
-  group-in g F = let l = first-lt g F in let f = G .fits in omega arith
-
-  -- a node that is not touched has a group that names none of those struck
-  untouched : (like m : ℕ) → TouchedTo grouped names like m groups → (i : ℕ) → i < nodes t → has m i ≡ false → Untouched t like i
-  untouched like m T i l q u u' f p =
-      let c = G .covers i l in
-      let g = c .0 in
-      let none = T g i (c .1) (c .2) q in
-      G .alike g i u' (c .1) (c .2)
-      ∙ P .named g (c .1) u u'
-      (λ j a b. ⊎-elim (λ h. h) (λ h. none-in (namesAt names g ∩ like) j none (∩-in (namesAt names g) like j b h)) (f j a))
-      (sym (G .alike g i u (c .1) (c .2)) ∙ p)
-
-  pub one-planned : (g m : ℕ) → FirstWith grouped v g → TouchedTo grouped names (nodesAt grouped g) m groups
-      → PlannedTo t (set (set (set plan (3 * v) (recordAt grouped g)) (3 * v + 1) (nodesAt grouped g)) (3 * v + 2) m) (suc v)
-  one-planned g m F T =
-      let l = first-lt g F in
-      node-more plan v (recordAt grouped g) (nodesAt grouped g) m (omega (arith, P .room, P .node)) t (P .so-far)
+  pub one-planned : (like m : ℕ) → LikeNode t v like → TouchedTo names like m n
+      → PlannedTo t (set (set (set plan (3 * v) (getD heads v 0)) (3 * v + 1) like) (3 * v + 2) m) (suc v)
+  unfolding satisfied
+  one-planned like m L T =
+      let l : v < nodes t = omega (arith, P .all-nodes, P .node) in
+      let e = P .headed .found v l in
+      node-more plan v (getD heads v 0) like m (omega (arith, P .room, P .node)) t (P .so-far)
       (record {
-        inside = G .inside g l;
-        itself = F .holds;
-        judged = λ i u p. G .alike g i u l p;
-        kept = untouched (nodesAt grouped g) m T;
+        inside = head-in (P .headed) v l;
+        itself = L .itself;
+        judged = λ i u p. L .alike i p u ∙ ap (satisfies 3 t u) (sym e);
+        kept = untouched like m T;
       })
 
 -- ---- no node yet

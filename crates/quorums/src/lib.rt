@@ -4,7 +4,7 @@ ghost use mathlib.Core.Path.{_≡_};
 ghost use mathlib.Core.Bool.{true};
 ghost use Prim.Native.Nat.{_<_, _≤_};
 ghost use Rattle.sets.specs.Sets.{within as withinSet, everyone};
-ghost use Rattle.meanings.specs.Table.{records, nodes as nodesOf, headOf, satisfied};
+ghost use Rattle.meanings.specs.Table.{nodes as nodesOf, satisfied};
 ghost use Rattle.meanings.specs.Faults.{check, sound};
 ghost use Rattle.meanings.specs.Quorums.{quorum, greatest, blocks};
 ghost use Rattle.meanings.specs.Rounds.{rounds};
@@ -50,32 +50,14 @@ fn yes_or_no(yes: bool) -> Judged
     Judged::No
 }
 
-// The record that opens node v. There is one, so the walk over the records ends at it.
-fn head(t: &[u64], v: u64) -> usize
-    requires { ⌜ v < nodesOf (now t) ⌝ }
-    ensures { λ o. ⌜ (o ≡ headOf (now (t .entry)) v) × (o < records (now (t .entry))) ⌝ }
-{
-    let mut before = 0u64;
-    let mut r = 0;
-    loop {
-        if tables::level(t, r) == 0 {
-            if before == v {
-                return r;
-            }
-            before += 1;
-        }
-        r += 1;
-    }
-}
-
 // Whether a set is a quorum, with `out` counted out.
 fn quorum_of(t: &[u64], out: u64, set: u64) -> bool
     requires { ⌜ (check (now t) ≡ sound) × (withinSet set (everyone (nodesOf (now t))) ≡ true) ⌝ }
     ensures { λ o. ⌜ o ≡ quorum (nodesOf (now (t .entry))) (satisfied (now (t .entry))) out set ⌝ }
 {
-    let mut plan = [0u64; 128];
-    let groups = groups::group(t, &mut plan);
-    rounds::quorum(t, &plan, groups, out, set)
+    let mut heads = [0u64; 64];
+    let nodes = tables::find_heads(t, &mut heads);
+    rounds::quorum(t, &heads, nodes, out, set)
 }
 
 // The greatest quorum within a set, with `out` counted out, and its rounds.
@@ -83,9 +65,9 @@ fn greatest_of(t: &[u64], out: u64, set: u64) -> Greatest
     requires { ⌜ (check (now t) ≡ sound) × (withinSet set (everyone (nodesOf (now t))) ≡ true) ⌝ }
     ensures { λ o. ⌜ o ≡ Gx.Is (greatest (nodesOf (now (t .entry))) (satisfied (now (t .entry))) out set) (rounds (nodesOf (now (t .entry))) (satisfied (now (t .entry))) out set) ⌝ }
 {
-    let mut plan = [0u64; 128];
-    let groups = groups::group(t, &mut plan);
-    let left = rounds::survivors(t, &plan, groups, out, set);
+    let mut heads = [0u64; 64];
+    let nodes = tables::find_heads(t, &mut heads);
+    let left = rounds::survivors(t, &heads, nodes, out, set);
     Greatest::Is {
         set: left.set,
         rounds: left.rounds,
@@ -93,12 +75,13 @@ fn greatest_of(t: &[u64], out: u64, set: u64) -> Greatest
 }
 
 // Whether a set blocks node v: its quorum set is judged on the nodes outside the set.
-fn blocked(t: &[u64], nodes: u64, set: u64, v: u64) -> bool
-    requires { ⌜ (check (now t) ≡ sound) × (nodes ≡ nodesOf (now t)) × (v < nodesOf (now t)) ⌝ }
+fn blocked(t: &[u64], set: u64, v: u64) -> bool
+    requires { ⌜ (check (now t) ≡ sound) × (v < nodesOf (now t)) ⌝ }
     ensures { λ o. ⌜ o ≡ blocks (nodesOf (now (t .entry))) (satisfied (now (t .entry))) set v ⌝ }
 {
-    let r = head(t, v);
-    !judge::satisfies(t, sets::without(sets::all(nodes), set), r, 3)
+    let mut heads = [0u64; 64];
+    let nodes = tables::find_heads(t, &mut heads);
+    !rounds::satisfied(t, &heads, sets::without(sets::all(nodes), set), v)
 }
 
 // Is this set a quorum, with `out` counted out?
@@ -143,5 +126,5 @@ pub fn blocks_node(table: &[u64], set: u64, node: u64) -> Judged
     if nodes <= node {
         return Judged::Outside;
     }
-    yes_or_no(blocked(table, nodes, set, node))
+    yes_or_no(blocked(table, set, node))
 }

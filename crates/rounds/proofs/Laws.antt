@@ -1,105 +1,43 @@
--- Those who stay of all groups together are those whom a round leaves: a node present is in some group, and judging that group's set is
--- judging the node's own.
-use mathlib.Core.Path.{_≡_, refl, sym, ap, _∙_, subst}
-use mathlib.Core.Bool.{Bool, true, false}
+-- A walk over the nodes gathers those who stay, which are all whom a round leaves. Over the rounds, what is left of those present is the
+-- answer, and the rounds so far with those still to come are the number; a round that is not the last drops a node.
+use mathlib.Core.Path.{_≡_, sym, ap, _∙_, subst}
+use mathlib.Core.Bool.{Bool, true, false, _&&_}
 use mathlib.Core.List.{List}
 use mathlib.Core.Logic.{_⊎_, inl, inr, ⊎-elim}
-use Prim.Native.Nat.{ℕ, zero, suc, _+_, _^_, _≤_, _<_}
-use native.Mathlib.Nat.{not-suc-le-zero, le-refl}
-use native.Mathlib.Numerals.{add-one}
+use Prim.Native.Nat.{ℕ, _+_, _^_, _≤_, _<_}
 use native.Mathlib.Omega.{arith}
 use borrow.Author.Tests.{eq-eqb, ne-eqb}
-use lib.Pow.{pow-pos}
-use Rattle.sets.specs.Sets.{nobody, _∪_, _∩_, _∖_, size, lowest, each}
-use Rattle.sets.proofs.Bools.{either, clash, fails}
-use Rattle.sets.proofs.Members.{In, has-below, ∪-left, ∪-right, ∪-cases, ∪-lt, ∩-in, ∩-out, ∩-lt, ∖-lt, none-in, sub-antisym, each-at, at-each}
-use Rattle.sets.proofs.Lowest.{lowest-in}
-use Rattle.sets.proofs.Size.{le-or-lt, size-le}
-use Rattle.meanings.specs.Table.{nodes, satisfies, satisfied}
+use Rattle.sets.specs.Sets.{has, nobody, only, _∪_, _∖_, size, setOf}
+use Rattle.sets.proofs.Bools.{and-both, and-left-fails, and-right-fails}
+use Rattle.sets.proofs.Members.{set-hit, set-miss, ∖-lt}
+use Rattle.sets.proofs.Size.{size-le}
+use Rattle.meanings.specs.Table.{nodes, satisfied}
 use Rattle.meanings.specs.Quorums.{greatest}
 use Rattle.meanings.specs.Rounds.{round, roundsFrom, leftFrom, rounds, survivors}
-use Rattle.theory.proofs.Rounds.{round-lt, round-in, round-out, round-less, is-last, is-not-last, left-stops, left-goes-on, rounds-stop, rounds-go-on, survivors-greatest}
+use Rattle.theory.proofs.Rounds.{round-lt, round-less, is-last, is-not-last, left-stops, left-goes-on, rounds-stop, rounds-go-on, survivors-greatest}
 use Rattle.judge.proofs.Monotone.{satisfied-monotone}
-use Rattle.groups.specs.Groups.{recordAt, nodesAt, Grouped, whereTrue, staying, stayingOf}
 
-module _ (t plan : List ℕ) (with present : ℕ) where
-  staying-case : (b : Bool) (m i : ℕ) → In (whereTrue b m) i → (b ≡ true) × In m i
-  staying-case true m i p = (refl, p)
-  staying-case false m i p = none-in nobody i refl p
+-- ---- one round
 
-  pub staying-true : (g : ℕ) → satisfies 3 t with (recordAt plan g) ≡ true → staying t plan with present g ≡ present ∩ nodesAt plan g
-  unfolding staying
-  staying-true g e = rw e
+-- node v stays: it is present, and `with` satisfies its quorum set
+abbrev pub stays : List ℕ → ℕ → ℕ → ℕ → Bool
+stays t with present v = has present v && satisfied t with v
 
-  pub staying-false : (g : ℕ) → satisfies 3 t with (recordAt plan g) ≡ false → staying t plan with present g ≡ nobody
-  unfolding staying
-  staying-false g e = rw e
+module _ (t : List ℕ) (with present v : ℕ) where
+  pub one-stays : has present v ≡ true → satisfied t with v ≡ true → setOf v (stays t with present) ∪ only v ≡ setOf (v + 1) (stays t with present)
+  one-stays p q = set-hit v (stays t with present) (and-both (has present v) (satisfied t with v) p q)
 
-  pub staying-none : (g : ℕ) → present ∩ nodesAt plan g ≡ nobody → staying t plan with present g ≡ nobody
-  staying-none g z =
-      ⊎-elim (λ e. staying-true g e ∙ z) (λ e. staying-false g e) (either (satisfies 3 t with (recordAt plan g)))
+  pub one-goes : (has present v ≡ false) ⊎ (satisfied t with v ≡ false) → setOf v (stays t with present) ≡ setOf (v + 1) (stays t with present)
+  one-goes w =
+      set-miss v (stays t with present)
+      (⊎-elim (and-left-fails (has present v) (satisfied t with v)) (and-right-fails (has present v) (satisfied t with v)) w)
 
-  pub of-next : (g : ℕ) → stayingOf t plan with present g ∪ staying t plan with present g ≡ stayingOf t plan with present (g + 1)
-  unfolding stayingOf
-  of-next g = rw (add-one g, stayingOf)
+-- the walk over all nodes has gathered a round
+pub gathered : (t : List ℕ) (n d present keep v : ℕ) → n ≡ nodes t → v ≡ n → keep ≡ setOf v (stays t (present ∪ d) present) → keep ≡ round (nodes t) (satisfied t) d present
+unfolding round
+gathered t n d present keep v a e k = k ∙ ap (λ (m : ℕ). setOf m (stays t (present ∪ d) present)) (e ∙ a)
 
-  staying-lt : (n : ℕ) → present < 2 ^ n → (b : Bool) (m : ℕ) → whereTrue b (present ∩ m) < 2 ^ n
-  staying-lt n h true m = ∩-lt n present m h
-  staying-lt n h false m = pow-pos n
-
-  of-lt : (n : ℕ) → present < 2 ^ n → (g : ℕ) → stayingOf t plan with present g < 2 ^ n
-  unfolding stayingOf staying
-  of-lt n h zero = pow-pos n
-  of-lt n h (suc g) =
-      ∪-lt n (stayingOf t plan with present g) (staying t plan with present g) (of-lt n h g)
-      (staying-lt n h (satisfies 3 t with (recordAt plan g)) (nodesAt plan g))
-
-  module _ (groups : ℕ) (w : Grouped t plan groups) where
-    -- whoever stays is present and satisfied
-    of-in : (g : ℕ) → g ≤ groups → (i : ℕ) → In (stayingOf t plan with present g) i → In present i × (satisfied t with i ≡ true)
-    unfolding stayingOf staying
-    of-in zero l i p = none-in nobody i refl p
-    of-in (suc g) l i p =
-        ⊎-elim (of-in g (omega arith) i)
-        (λ q.
-        let e = staying-case (satisfies 3 t with (recordAt plan g)) (present ∩ nodesAt plan g) i q in
-        let m = ∩-out present (nodesAt plan g) i (e .1) in
-        (m .0, w .alike g i with l (m .1) ∙ e .0))
-        (∪-cases (stayingOf t plan with present g) (staying t plan with present g) i p)
-
-    -- whoever is present and satisfied stays with its group
-    of-out : (g h i : ℕ) → g < h → h ≤ groups → In (nodesAt plan g) i → In present i → satisfied t with i ≡ true → In (stayingOf t plan with present h) i
-    unfolding stayingOf
-    of-out g zero i l k m p e = absurd (not-suc-le-zero l)
-    of-out g (suc h) i l k m p e =
-        let ih : g < h → In (stayingOf t plan with present h) i = λ x. of-out g h i x (omega arith) m p e in
-        ⊎-elim
-        (λ (x : g < h). ∪-left (stayingOf t plan with present h) (staying t plan with present h) i (ih x))
-        (λ (x : h ≤ g).
-        let same : g ≡ h = omega arith in
-        ∪-right (stayingOf t plan with present h) (staying t plan with present h) i
-        (subst (λ (y : ℕ). In (staying t plan with present y) i) same
-        (subst (λ (y : ℕ). In y i) (sym (staying-true g (sym (w .alike g i with (omega arith) m) ∙ e))) (∩-in present (nodesAt plan g) i p m))))
-        (⊎-elim (λ x. inr x) (λ x. inl x) (le-or-lt h g))
-
--- those who stay are those whom a round leaves
-pub of-round : (t plan : List ℕ) (groups d present : ℕ) → Grouped t plan groups → present < 2 ^ nodes t
-    → stayingOf t plan (present ∪ d) present groups ≡ round (nodes t) (satisfied t) d present
-of-round t plan groups d present w h =
-    sub-antisym n (stayingOf t plan (present ∪ d) present groups) (round n (satisfied t) d present) (of-lt t plan (present ∪ d) present n h groups) (round-lt n (satisfied t) d present)
-    (λ i p. let q = inside i p in round-in n (satisfied t) d present i (has-below n present i h (q .0)) (q .0) (q .1))
-    (λ i p.
-    let q = round-out n (satisfied t) d present i p in
-    let c = w .covers i (has-below n present i h (q .0)) in
-    of-out t plan (present ∪ d) present groups w (c .0) groups i (c .1) (le-refl groups) (c .2) (q .0) (q .1))
-  where
-    n : ℕ
-    n = nodes t
-
-    inside : (i : ℕ) → In (stayingOf t plan (present ∪ d) present groups) i → In present i × (satisfied t (present ∪ d) i ≡ true)
-    inside = of-in t plan (present ∪ d) present groups w groups (le-refl groups)
-
--- ---- the rounds, as the loop takes them
+-- ---- the rounds
 module _ (t : List ℕ) (d u : ℕ) where
   abbrev n : ℕ
   n = nodes t
@@ -159,33 +97,3 @@ module _ (t : List ℕ) (d u : ℕ) where
           number = omega arith;
           few = omega arith;
         }
-
--- ---- a quorum
-module _ (t plan : List ℕ) (groups with c : ℕ) (w : Grouped t plan groups) (h : c < 2 ^ nodes t) where
-  -- each group so far stays as a whole
-  abbrev pub Whole : ℕ → Type 0
-  Whole g = (j : ℕ) → j < g → staying t plan with c j ≡ c ∩ nodesAt plan j
-
-  pub all-whole : Whole groups → each (nodes t) c (λ v. satisfied t with v) ≡ true
-  all-whole f =
-      at-each (nodes t) c (λ v. satisfied t with v) h (λ i p.
-      let k = w .covers i (has-below (nodes t) c i h p) in
-      let m : In (staying t plan with c (k .0)) i = subst (λ (x : ℕ). In x i) (sym (f (k .0) (k .1))) (∩-in c (nodesAt plan (k .0)) i p (k .2)) in
-      w .alike (k .0) i with (k .1) (k .2) ∙ kept (k .0) i m)
-    where
-      kept : (g i : ℕ) → In (staying t plan with c g) i → satisfies 3 t with (recordAt plan g) ≡ true
-      kept g i m =
-          ⊎-elim (λ e. e) (λ e. none-in (staying t plan with c g) i (staying-false t plan with c g e) m) (either (satisfies 3 t with (recordAt plan g)))
-
-  pub not-whole : (g : ℕ) → g < groups → ¬ (staying t plan with c g ≡ c ∩ nodesAt plan g) → each (nodes t) c (λ v. satisfied t with v) ≡ false
-  not-whole g l z =
-      fails (each (nodes t) c (λ v. satisfied t with v)) (λ e.
-      ⊎-elim
-      (λ x. z (staying-true t plan with c g x))
-      (λ x.
-      let some : ¬ (c ∩ nodesAt plan g ≡ nobody) = λ y. z (staying-false t plan with c g x ∙ sym y) in
-      let i = lowest (nodes t) (c ∩ nodesAt plan g) in
-      let m = lowest-in (nodes t) (c ∩ nodesAt plan g) (∩-lt (nodes t) c (nodesAt plan g) h) some in
-      let q = ∩-out c (nodesAt plan g) i m in
-      clash (satisfied t with i) (each-at (nodes t) c (λ v. satisfied t with v) e i (q .0)) (w .alike g i with l (q .1) ∙ x))
-      (either (satisfies 3 t with (recordAt plan g))))

@@ -3,10 +3,10 @@
 ghost use mathlib.Core.Path.{_≡_};
 ghost use Prim.Native.Nat.{_<_};
 ghost use Rattle.sets.specs.Sets.{each};
-ghost use Rattle.meanings.specs.Table.{nodes, satisfied};
+ghost use Rattle.meanings.specs.Table.{nodes as nodesOf, satisfied as satisfiedIs};
 ghost use Rattle.meanings.specs.Quorums.{greatest, quorum as quorumIs};
 ghost use Rattle.meanings.specs.Rounds.{rounds as roundsOf};
-ghost use Rattle.groups.specs.Groups.{Grouped, staying};
+ghost use Rattle.tables.specs.Heads.{Headed};
 ghost use Rattle.rounds.specs.Rounds.{Ground};
 
 pub struct Left {
@@ -14,26 +14,18 @@ pub struct Left {
     pub rounds: u64,
 }
 
-// Those present who stay, of one group.
-fn stay(t: &[u64], plan: &[u64], groups: usize, with: u64, present: u64, g: usize) -> u64
-    requires { ⌜ (Grouped (now t) (now plan) groups) × (g < groups) ⌝ }
-    ensures { λ o. ⌜ o ≡ staying (now (t .entry)) (now (plan .entry)) with present g ⌝ }
+// Whether `with` satisfies the quorum set of node v.
+pub fn satisfied(t: &[u64], heads: &[u64], with: u64, v: u64) -> bool
+    requires { ⌜ Headed (now t) (now heads) × (v < nodesOf (now t)) ⌝ }
+    ensures { λ o. ⌜ o ≡ satisfiedIs (now (t .entry)) with v ⌝ }
 {
-    let here = present & plan[2 * g + 1];
-    if here == 0 {
-        return 0;
-    }
-    let r = plan[2 * g] as usize;
-    if judge::satisfies(t, with, r, 3) {
-        return here;
-    }
-    0
+    judge::satisfies(t, with, heads[v as usize] as usize, 3)
 }
 
 // The greatest quorum within u with d counted out, and its rounds. A round that is not the last drops a node, so the rounds end.
-pub fn survivors(t: &[u64], plan: &[u64], groups: usize, d: u64, u: u64) -> Left
-    requires { ⌜ Ground (now t) (now plan) groups u ⌝ }
-    ensures { λ o. ⌜ (o .set ≡ greatest (nodes (now (t .entry))) (satisfied (now (t .entry))) d u) × (o .rounds ≡ roundsOf (nodes (now (t .entry))) (satisfied (now (t .entry))) d u) ⌝ }
+pub fn survivors(t: &[u64], heads: &[u64], nodes: u64, d: u64, u: u64) -> Left
+    requires { ⌜ Ground (now t) (now heads) nodes u ⌝ }
+    ensures { λ o. ⌜ (o .set ≡ greatest (nodesOf (now (t .entry))) (satisfiedIs (now (t .entry))) d u) × (o .rounds ≡ roundsOf (nodesOf (now (t .entry))) (satisfiedIs (now (t .entry))) d u) ⌝ }
 {
     let mut present = sets::without(u, d);
     let mut count = 0u64;
@@ -43,9 +35,9 @@ pub fn survivors(t: &[u64], plan: &[u64], groups: usize, d: u64, u: u64) -> Left
     'rounds: loop {
         let with = present | d;
         let mut keep = 0u64;
-        let mut g = 0;
+        let mut v = 0u64;
         loop {
-            if g == groups {
+            if v == nodes {
                 if keep == present || keep == 0 {
                     break 'rounds Left {
                         set: keep,
@@ -54,8 +46,10 @@ pub fn survivors(t: &[u64], plan: &[u64], groups: usize, d: u64, u: u64) -> Left
                 }
                 break;
             }
-            keep = keep | stay(t, plan, groups, with, present, g);
-            g += 1;
+            if sets::contains(present, v) && satisfied(t, heads, with, v) {
+                keep = keep | sets::one(v);
+            }
+            v += 1;
         }
         present = keep;
         count += 1;
@@ -63,24 +57,24 @@ pub fn survivors(t: &[u64], plan: &[u64], groups: usize, d: u64, u: u64) -> Left
 }
 
 // Whether those of c are all satisfied by `with`.
-fn settled(t: &[u64], plan: &[u64], groups: usize, with: u64, c: u64) -> bool
-    requires { ⌜ Ground (now t) (now plan) groups c ⌝ }
-    ensures { λ o. ⌜ o ≡ each (nodes (now (t .entry))) c (λ v. satisfied (now (t .entry)) with v) ⌝ }
+fn settled(t: &[u64], heads: &[u64], nodes: u64, with: u64, c: u64) -> bool
+    requires { ⌜ Ground (now t) (now heads) nodes c ⌝ }
+    ensures { λ o. ⌜ o ≡ each (nodesOf (now (t .entry))) c (λ v. satisfiedIs (now (t .entry)) with v) ⌝ }
 {
-    let mut g = 0;
-    while g < groups {
-        if stay(t, plan, groups, with, c, g) != c & plan[2 * g + 1] {
+    let mut v = 0u64;
+    while v < nodes {
+        if sets::contains(c, v) && !satisfied(t, heads, with, v) {
             return false;
         }
-        g += 1;
+        v += 1;
     }
     true
 }
 
 // Whether c is a quorum with d counted out.
-pub fn quorum(t: &[u64], plan: &[u64], groups: usize, d: u64, c: u64) -> bool
-    requires { ⌜ Ground (now t) (now plan) groups c ⌝ }
-    ensures { λ o. ⌜ o ≡ quorumIs (nodes (now (t .entry))) (satisfied (now (t .entry))) d c ⌝ }
+pub fn quorum(t: &[u64], heads: &[u64], nodes: u64, d: u64, c: u64) -> bool
+    requires { ⌜ Ground (now t) (now heads) nodes c ⌝ }
+    ensures { λ o. ⌜ o ≡ quorumIs (nodesOf (now (t .entry))) (satisfiedIs (now (t .entry))) d c ⌝ }
 {
     if c == 0 {
         return false;
@@ -88,5 +82,5 @@ pub fn quorum(t: &[u64], plan: &[u64], groups: usize, d: u64, c: u64) -> bool
     if c & d != 0 {
         return false;
     }
-    settled(t, plan, groups, c | d, c)
+    settled(t, heads, nodes, c | d, c)
 }

@@ -1,19 +1,21 @@
 -- The records that open nodes, as a walk from the first record on meets them: a record at level 0 is the head of the node whose
 -- number is how many heads stand before it.
-use mathlib.Core.Path.{_≡_, refl, sym, ap, _∙_}
+use mathlib.Core.Path.{_≡_, refl, sym, ap, _∙_, subst}
 use mathlib.Core.Bool.{Bool, true, false}
+use mathlib.Core.Logic.{⊎-elim}
 use mathlib.Core.List.{List, _∷_, _++_}
 use Prim.Native.Nat.{ℕ, zero, suc, _+_, _-_, _≤_, _<_}
 use native.Mathlib.Nat.{zero-add, add-zero}
 use native.Mathlib.Numerals.{add-one}
 use native.Mathlib.Omega.{arith}
 use borrow.Author.Tests.{eq-eqb, ne-eqb, eqb-true}
-use lib.ListN.{length, getD, length-append}
-use lib.Seq.{getD-append-add}
+use lib.ListN.{length, getD, set, length-append}
+use lib.Seq.{getD-append-add, getD-set-same, getD-set-other}
+use Rattle.sets.proofs.Size.{le-or-lt}
 use Rattle.sets.specs.Lists.{keep, consIf, from}
 use Rattle.meanings.specs.Table.{records, level, heads, nodes, headOf}
 use Rattle.tables.specs.Run.{bump}
-use Rattle.tables.specs.Heads.{isHead, headsIn, headsBefore}
+use Rattle.tables.specs.Heads.{isHead, headsIn, headsBefore, HeadsTo, Headed}
 use Rattle.tables.proofs.Lists.{keep-split, keep-last, keep-at, Picked}
 
 pub before-first : (t : List ℕ) → headsBefore t 0 ≡ 0
@@ -84,3 +86,17 @@ module _ (t : List ℕ) (v : ℕ) (l : v < nodes t) where
 
   pub headOf-level : level t (headOf t v) ≡ 0
   headOf-level = eqb-true (level t (headOf t v)) 0 (picked .passes)
+
+-- ---- the heads found so far, and one more
+pub one-head : (t found : List ℕ) (v r : ℕ) → v < length found → r < records t → level t r ≡ 0 → v ≡ headsBefore t r → HeadsTo t found v → HeadsTo t (set found v r) (v + 1)
+one-head t found v r l h e n H w q =
+    ⊎-elim
+    (λ (p : v ≤ w).
+    let d : w ≡ v = omega arith in
+    ap (λ (k : ℕ). getD (set found v r) k 0) d ∙ getD-set-same found v r 0 l ∙ sym (head-of t r h e) ∙ ap (headOf t) (sym n ∙ sym d))
+    (λ (p : w < v). getD-set-other found v w r 0 (λ c. omega arith) ∙ H w p)
+    (le-or-lt v w)
+
+-- the record found for a node is one of the table
+pub head-in : {t heads : List ℕ} → Headed t heads → (v : ℕ) → v < nodes t → getD heads v 0 < records t
+head-in {t} H v l = subst (λ (r : ℕ). r < records t) (sym (H .found v l)) (headOf-lt t v l)

@@ -1,8 +1,11 @@
-// The packed table (document 01, 'The packed table'): reading a record. Records are counted from 0.
+// The packed table (document 01, 'The packed table'): reading a record, and finding the records that open the nodes. Records are
+// counted from 0.
 ghost use mathlib.Core.Path.{_≡_};
-ghost use Prim.Native.Nat.{_+_, _*_, _<_, _^_};
+ghost use Prim.Native.Nat.{_+_, _*_, _<_, _≤_, _^_};
 ghost use lib.ListN.{length};
-ghost use Rattle.meanings.specs.Table.{control as controlOf, level as levelOf, threshold as thresholdOf, members as membersOf};
+ghost use Rattle.meanings.specs.Table.{control as controlOf, level as levelOf, threshold as thresholdOf, members as membersOf, nodes as nodesOf};
+ghost use Rattle.meanings.specs.Faults.{check, sound};
+ghost use Rattle.tables.specs.Heads.{Headed};
 
 // The control word, threshold + 256 x level.
 pub fn control(t: &[u64], r: usize) -> u64
@@ -32,4 +35,21 @@ pub fn members(t: &[u64], r: usize) -> u64
     ensures { λ o. ⌜ (o ≡ membersOf (now (t .entry)) r) × (o < 2 ^ 64) ⌝ }
 {
     t[2 * r + 1]
+}
+
+// Finds the record that opens each node of a sound table, and puts it at the node's number. Returns how many nodes there are.
+pub fn find_heads(t: &[u64], heads: &mut [u64]) -> u64
+    requires { ⌜ (check (now t) ≡ sound) × (64 ≤ length (now heads)) ⌝ }
+    ensures { λ o. ⌜ Headed (now (t .entry)) (now (heads .exit)) × (o ≡ nodesOf (now (t .entry))) ⌝ }
+{
+    let mut v = 0u64;
+    let mut r = 0;
+    while r < t.len() / 2 {
+        if level(t, r) == 0 {
+            heads[v as usize] = r as u64;
+            v += 1;
+        }
+        r += 1;
+    }
+    v
 }

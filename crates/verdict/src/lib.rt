@@ -117,7 +117,7 @@ fn decide(t: &[u64], nodes: u64, out: u64, allowance: u64) -> Verdict
     ensures { λ o. ⌜ o ≡ within allowance 0 (walk (verdictTree (nodesOf (now (t .entry))) (satisfied (now (t .entry))) out)) ⌝ }
 {
     let mut plan = [0u64; 192];
-    plans::plan(t, nodes, &mut plan);
+    plans::plan(t, &mut plan);
     let ground = sets::without(sets::all(nodes), out);
     search_from(t, &plan, out, ground, allowance, 0)
 }

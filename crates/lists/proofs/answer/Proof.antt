@@ -41,7 +41,7 @@ passed c =
     sound-known (k .before .before .before .args .table .now) (k .check-table .result) (k .check-table .ensures) (g .0 .0) (g .0 .1 .0) (g .1)
 
 plan-requires : tie.Need-plan-requires
-plan-requires c κs = let p = passed (c .before) in (p .0, p .1, omega arith)
+plan-requires c κs = let p = passed (c .before) in (p .0, omega arith)
 
 all-requires : tie.Need-all-requires
 all-requires c κs =

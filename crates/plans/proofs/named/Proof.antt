@@ -6,7 +6,7 @@ use borrow.Author.Needs.{needs}
 use Rattle.sets.proofs.Bools.{not-holds, not-fails}
 use Rattle.meanings.specs.Table.{records}
 use Rattle.tables.proofs.Sound.{record-in}
-use Rattle.groups.proofs.Alike.{not-ended}
+use Rattle.plans.proofs.SameSets.{not-ended}
 use Rattle.plans.proofs.Naming.{Gathered, first-gathered, one-more, whole-names}
 use Rattle.plans.proofs.named.Statement.{statement}
 use Rattle.plans.proofs.named.Tie as tie

@@ -1,11 +1,11 @@
--- The nodes are grouped and the groups named once; the loop then plans one node after the other.
+-- The nodes' records and what they name are found once; the loop then plans one node after the other.
 use mathlib.Core.Path.{_≡_, refl, _∙_}
 use Prim.Native.Nat.{_-_, _≤_}
 use native.Mathlib.Numerals.{add-one}
 use native.Mathlib.Omega.{arith}
 use borrow.Author.Needs.{needs}
 use lib.ListN.{length}
-use Rattle.meanings.specs.Table.{nodes}
+use Rattle.meanings.specs.Table.{nodes as nodesOf}
 use Rattle.tables.proofs.Sound.{sound-table}
 use Rattle.plans.specs.Plans.{PlannedTo}
 use Rattle.plans.proofs.Planning.{none-planned}
@@ -13,25 +13,29 @@ use Rattle.plans.proofs.plan.Statement.{statement}
 use Rattle.plans.proofs.plan.Tie as tie
 
 abbrev Inv-loop : tie.InvT-loop
-Inv-loop t nodes plan₀ grouped groups names v₀ plan v = (v ≤ nodes) × (length plan ≡ length plan₀) × PlannedTo t plan v
+Inv-loop t plan₀ heads nodes names v₀ plan v = (v ≤ nodes) × (length plan ≡ length plan₀) × PlannedTo t plan v
 
 abbrev μ-loop : tie.MeasureT-loop
-μ-loop t nodes plan₀ grouped groups names v₀ plan v = nodes - v
+μ-loop t plan₀ heads nodes names v₀ plan v = nodes - v
 
-slice-aggregate-group : tie.Need-slice-aggregate-group Inv-loop μ-loop
-slice-aggregate-group c = search needs
+slice-aggregate-find-heads : tie.Need-slice-aggregate-find-heads Inv-loop μ-loop
+slice-aggregate-find-heads c = search needs
 
-group-requires : tie.Need-group-requires Inv-loop μ-loop
-group-requires c κs = (c .before .before .before .pre .0, omega arith)
+find-heads-requires : tie.Need-find-heads-requires Inv-loop μ-loop
+find-heads-requires c κs = (c .before .before .before .pre .0, omega arith)
 
-slice-aggregate-name-groups : tie.Need-slice-aggregate-name-groups Inv-loop μ-loop
-slice-aggregate-name-groups c = search needs
+slice-aggregate-name-nodes : tie.Need-slice-aggregate-name-nodes Inv-loop μ-loop
+slice-aggregate-name-nodes c = search needs
 
-slice-aggregate-name-groups-2 : tie.Need-slice-aggregate-name-groups-2 Inv-loop μ-loop
-slice-aggregate-name-groups-2 c = search needs
+slice-aggregate-name-nodes-2 : tie.Need-slice-aggregate-name-nodes-2 Inv-loop μ-loop
+slice-aggregate-name-nodes-2 c = search needs
 
-name-groups-requires : tie.Need-name-groups-requires Inv-loop μ-loop
-name-groups-requires c κs = let e = c .before .before .before .group .ensures in (e .0, e .1)
+name-nodes-requires : tie.Need-name-nodes-requires Inv-loop μ-loop
+name-nodes-requires c κs =
+    let F = c .before .before .before in
+    let s = F .before .before .before .before in
+    let m = sound-table (s .args .t .now) (s .pre .0) .nodes-le in
+    (F .find-heads .ensures .0, F .find-heads .ensures .1, omega (arith, F .find-heads .ensures .1))
 
 loop-holds : tie.Need-loop-holds Inv-loop μ-loop
 loop-holds c =
@@ -52,12 +56,14 @@ plan-node-requires c κs =
     let s = A .before .before .before .before in
     let v = L .loop .inv in
     let m = sound-table (s .args .t .now) (s .pre .0) .nodes-le in
+    let e = A .find-heads .ensures .1 in
     record {
-      in-groups = A .group .ensures .0;
-      named = N .name-groups .ensures .0;
-      names-fit = omega (arith, A .group .ensures .1, N .name-groups .ensures .1);
-      room = omega (arith, v .1, s .pre .2);
-      node = omega (arith, s .pre .1, c .before .before .before .loop-test .taken);
+      headed = A .find-heads .ensures .0;
+      all-nodes = e;
+      named = N .name-nodes .ensures .0;
+      names-fit = omega (arith, N .name-nodes .ensures .1);
+      room = omega (arith, v .1, s .pre .1);
+      node = c .before .before .before .loop-test .taken;
       so-far = v .2;
     }
 
@@ -83,8 +89,9 @@ returns c =
     let s = L .before .before .before .before .before .before .before .before .before .before in
     let v = L .loop .inv in
     let m = sound-table (s .args .t .now) (s .pre .0) .nodes-le in
-    let e : L .loop .v ≡ nodes (s .args .t .now) = omega (arith, v .0, s .pre .1, c .loop-test .left) in
-    (record { checked = s .pre .0; fits = omega (arith, v .1, s .pre .2); all-nodes = rw e at (v .2) }, v .1)
+    let f = L .before .before .before .before .before .before .find-heads .ensures .1 in
+    let e : L .loop .v ≡ nodesOf (s .args .t .now) = omega (arith, v .0, c .loop-test .left) in
+    (record { checked = s .pre .0; fits = omega (arith, v .1, s .pre .1); all-nodes = rw e at (v .2) }, v .1)
 
 pub plan-spec : {M : Type 1} → statement M
 plan-spec =
@@ -92,11 +99,11 @@ plan-spec =
     (tie.spec
     Inv-loop
     μ-loop
-    slice-aggregate-group
-    group-requires
-    slice-aggregate-name-groups
-    slice-aggregate-name-groups-2
-    name-groups-requires
+    slice-aggregate-find-heads
+    find-heads-requires
+    slice-aggregate-name-nodes
+    slice-aggregate-name-nodes-2
+    name-nodes-requires
     loop-holds
     slice-aggregate-plan-node
     slice-aggregate-plan-node-2

@@ -1,4 +1,4 @@
--- The loop gathers the nodes of the groups passed that name any of `like`.
+-- The loop gathers the nodes passed that name any of `like`.
 use mathlib.Core.Logic.{⊎-elim}
 use Prim.Native.Nat.{_-_, _≤_}
 use native.Mathlib.Omega.{arith}
@@ -8,13 +8,13 @@ use Rattle.plans.proofs.touched.Statement.{statement}
 use Rattle.plans.proofs.touched.Tie as tie
 
 abbrev Inv-loop : tie.InvT-loop
-Inv-loop grouped groups names like all₀ g₀ all g = (g ≤ groups) × TouchedTo grouped names like all g
+Inv-loop names nodes like all₀ i₀ all i = (i ≤ nodes) × TouchedTo names like all i
 
 abbrev μ-loop : tie.MeasureT-loop
-μ-loop grouped groups names like all₀ g₀ all g = groups - g
+μ-loop names nodes like all₀ i₀ all i = nodes - i
 
 loop-holds : tie.Need-loop-holds Inv-loop μ-loop
-loop-holds c = (omega arith, λ g i l. absurd (omega arith))
+loop-holds c = (omega arith, λ i l. absurd (omega arith))
 
 mul-if1 : tie.Need-mul-if1 Inv-loop μ-loop
 mul-if1 c = omega arith
@@ -22,20 +22,11 @@ mul-if1 c = omega arith
 shared-slice-read-if1 : tie.Need-shared-slice-read-if1 Inv-loop μ-loop
 shared-slice-read-if1 c = omega arith
 
-mul-all : tie.Need-mul-all Inv-loop μ-loop
-mul-all c = omega arith
+one-requires : tie.Need-one-requires Inv-loop μ-loop
+one-requires c κs = omega arith
 
-add-all : tie.Need-add-all Inv-loop μ-loop
-add-all c = omega arith
-
-mul-all-2 : tie.Need-mul-all-2 Inv-loop μ-loop
-mul-all-2 c = omega arith
-
-shared-slice-read-all : tie.Need-shared-slice-read-all Inv-loop μ-loop
-shared-slice-read-all c = omega arith
-
-add-g : tie.Need-add-g Inv-loop μ-loop
-add-g c = omega arith
+add-i : tie.Need-add-i Inv-loop μ-loop
+add-i c = omega arith
 
 loop-less : tie.Need-loop-less Inv-loop μ-loop
 loop-less c = omega arith
@@ -43,20 +34,19 @@ loop-less c = omega arith
 loop-again : tie.Need-loop-again Inv-loop μ-loop
 loop-again c =
     let L = c .before .before .before in
-    let s = L .before in
-    let G = s .args .grouped .now in
+    let s = L .before .before in
     let N = s .args .names .now in
     let v = L .loop .inv in
     ⊎-elim
-    (λ w. (omega arith, rw (w .2) (touched-more G N (s .args .like) (L .loop .all) (L .loop .g) (v .1))))
-    (λ w. (omega arith, rw (w .1) (touched-same G N (s .args .like) (L .loop .all) (L .loop .g) (v .1) (w .0 .left))))
+    (λ w. (omega arith, rw (w .2, w .1 .ensures) (touched-more N (s .args .like) (L .loop .all) (L .loop .i) (v .1))))
+    (λ w. (omega arith, rw (w .1) (touched-same N (s .args .like) (L .loop .all) (L .loop .i) (v .1) (w .0 .left))))
     (c .if1 .came)
 
 returns : tie.Need-returns Inv-loop μ-loop
 returns c =
     let L = c .before in
     let e = L .loop .inv .0 in
-    λ g i l. L .loop .inv .1 g i (omega (arith, c .loop-test .left))
+    λ i l. L .loop .inv .1 i (omega (arith, c .loop-test .left))
 
 pub touched-spec : {M : Type 1} → statement M
 touched-spec =
@@ -67,11 +57,8 @@ touched-spec =
     loop-holds
     mul-if1
     shared-slice-read-if1
-    mul-all
-    add-all
-    mul-all-2
-    shared-slice-read-all
-    add-g
+    one-requires
+    add-i
     loop-less
     loop-again
     returns)

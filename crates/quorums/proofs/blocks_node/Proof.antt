@@ -67,7 +67,7 @@ node-inside c =
     subst (λ (k : ℕ). s .args .node < k) (passed K .nodes-are) (c .if2 .left)
 
 blocked-requires : tie.Need-blocked-requires
-blocked-requires c κs = let K = c .before .before .before in (passed K .checked, passed K .nodes-are, node-inside c)
+blocked-requires c κs = let K = c .before .before .before in (passed K .checked, node-inside c)
 
 yes-or-no-requires : tie.Need-yes-or-no-requires
 yes-or-no-requires c κs = search needs

@@ -1,4 +1,4 @@
--- The plan groups the nodes, and the set is one of nodes, which is all that the rounds by groups ask.
+-- The records of all nodes are found, and the set is one of nodes, which is all that the rounds ask.
 use Prim.Native.Nat.{_<_, _^_}
 use Rattle.meanings.specs.Table.{nodes}
 use Rattle.quorums.proofs.Opening.{inside-lt}
@@ -6,11 +6,11 @@ use borrow.Author.Needs.{needs}
 use Rattle.quorums.proofs.greatest_of.Statement.{statement}
 use Rattle.quorums.proofs.greatest_of.Tie as tie
 
-slice-aggregate-group : tie.Need-slice-aggregate-group
-slice-aggregate-group c = search needs
+slice-aggregate-find-heads : tie.Need-slice-aggregate-find-heads
+slice-aggregate-find-heads c = search needs
 
-group-requires : tie.Need-group-requires
-group-requires c κs = search needs
+find-heads-requires : tie.Need-find-heads-requires
+find-heads-requires c κs = search needs
 
 slice-aggregate-survivors : tie.Need-slice-aggregate-survivors
 slice-aggregate-survivors c = search needs
@@ -28,8 +28,8 @@ pub greatest-of-spec : {M : Type 1} → statement M
 greatest-of-spec =
     tie.close
     (tie.spec
-    slice-aggregate-group
-    group-requires
+    slice-aggregate-find-heads
+    find-heads-requires
     slice-aggregate-survivors
     survivors-requires
     returns)

@@ -1,4 +1,4 @@
--- The plan groups the nodes, and the set is one of nodes, which is all that judging it by groups asks.
+-- The records of all nodes are found, and the set is one of nodes, which is all that judging it asks.
 use Prim.Native.Nat.{_<_, _^_}
 use Rattle.meanings.specs.Table.{nodes}
 use Rattle.quorums.proofs.Opening.{inside-lt}
@@ -6,11 +6,11 @@ use borrow.Author.Needs.{needs}
 use Rattle.quorums.proofs.quorum_of.Statement.{statement}
 use Rattle.quorums.proofs.quorum_of.Tie as tie
 
-slice-aggregate-group : tie.Need-slice-aggregate-group
-slice-aggregate-group c = search needs
+slice-aggregate-find-heads : tie.Need-slice-aggregate-find-heads
+slice-aggregate-find-heads c = search needs
 
-group-requires : tie.Need-group-requires
-group-requires c κs = search needs
+find-heads-requires : tie.Need-find-heads-requires
+find-heads-requires c κs = search needs
 
 slice-aggregate-quorum : tie.Need-slice-aggregate-quorum
 slice-aggregate-quorum c = search needs
@@ -27,4 +27,9 @@ returns c = search needs
 pub quorum-of-spec : {M : Type 1} → statement M
 quorum-of-spec =
     tie.close
-    (tie.spec slice-aggregate-group group-requires slice-aggregate-quorum quorum-requires returns)
+    (tie.spec
+    slice-aggregate-find-heads
+    find-heads-requires
+    slice-aggregate-quorum
+    quorum-requires
+    returns)

@@ -1,80 +1,77 @@
--- Each group passed stays as a whole; one that does not has a node that is not satisfied.
-use Prim.Native.Nat.{ℕ, _-_, _<_, _≤_}
-use native.Mathlib.Nat.{not-suc-le-zero}
-use native.Mathlib.Omega.{arith}
+-- Each node of c that is passed is satisfied; one that is not ends the walk.
 use mathlib.Core.Path.{_≡_, sym, _∙_}
+use mathlib.Core.Bool.{true}
+use mathlib.Core.Logic.{⊎-elim}
+use Prim.Native.Nat.{ℕ, _+_, _-_, _<_, _≤_}
+use native.Mathlib.Omega.{arith}
 use borrow.Author.Count.{below-more}
-use Rattle.sets.specs.Sets.{_∩_}
-use Rattle.groups.specs.Groups.{nodesAt, staying}
-use Rattle.rounds.proofs.Laws.{all-whole, not-whole}
+use Rattle.sets.specs.Sets.{has, each}
+use Rattle.sets.proofs.Bools.{clash, fails, not-holds, not-fails}
+use Rattle.sets.proofs.Members.{In, has-below, each-at, at-each}
+use Rattle.meanings.specs.Table.{nodes as nodesOf, satisfied}
+use Rattle.tables.proofs.Sound.{sound-table}
 use Rattle.rounds.proofs.settled.Statement.{statement}
 use Rattle.rounds.proofs.settled.Tie as tie
 
 abbrev Inv-loop : tie.InvT-loop
-Inv-loop t plan groups with c g₀ g = (g ≤ groups) × ((j : ℕ) → j < g → staying t plan with c j ≡ c ∩ nodesAt plan j)
+Inv-loop t heads nodes with c v₀ v = (v ≤ nodes) × ((i : ℕ) → i < v → In c i → satisfied t with i ≡ true)
 
 abbrev μ-loop : tie.MeasureT-loop
-μ-loop t plan groups with c g₀ g = groups - g
+μ-loop t heads nodes with c v₀ v = nodes - v
 
 loop-holds : tie.Need-loop-holds Inv-loop μ-loop
-loop-holds c = (omega arith, λ j l. absurd (not-suc-le-zero l))
+loop-holds c = (omega arith, λ i l. absurd (omega arith))
 
-stay-requires : tie.Need-stay-requires Inv-loop μ-loop
-stay-requires c κs = (c .before .before .before .before .pre .grouped, c .loop-test .taken)
+contains-requires : tie.Need-contains-requires Inv-loop μ-loop
+contains-requires c κs =
+    let s = c .before .before .before .before in
+    let m = sound-table (s .args .t .now) (s .pre .headed .checked) .nodes-le in
+    omega (arith, s .pre .all-nodes)
 
-mul-if1 : tie.Need-mul-if1 Inv-loop μ-loop
-mul-if1 c =
-    let l = c .before .loop-test .taken in
-    let w = c .before .before .before .before .before .pre .grouped .fits in
-    omega arith
-
-add-if1 : tie.Need-add-if1 Inv-loop μ-loop
-add-if1 c =
-    let l = c .before .loop-test .taken in
-    let w = c .before .before .before .before .before .pre .grouped .fits in
-    omega arith
-
-mul-if1-2 : tie.Need-mul-if1-2 Inv-loop μ-loop
-mul-if1-2 c =
-    let l = c .before .loop-test .taken in
-    let w = c .before .before .before .before .before .pre .grouped .fits in
-    omega arith
-
-shared-slice-read-if1 : tie.Need-shared-slice-read-if1 Inv-loop μ-loop
-shared-slice-read-if1 c =
-    let l = c .before .before .loop-test .taken in
-    let w = c .before .before .before .before .before .before .pre .grouped .fits in
-    omega arith
+satisfied-requires : tie.Need-satisfied-requires Inv-loop μ-loop
+satisfied-requires c κs =
+    let s = c .before .before .before .before .before .before in
+    (s .pre .headed, omega (arith, s .pre .all-nodes))
 
 returns : tie.Need-returns Inv-loop μ-loop
 returns c =
-    let L = c .before .before .before .before in
+    let S = c .before in
+    let L = S .before .before .before .before in
     let s = L .before .before .before in
-    sym (not-whole (s .args .t .now) (s .args .plan .now) (s .args .groups) (s .args .with) (s .args .c) (s .pre .grouped) (s .pre .inside) (L .loop .g)
-    (c .before .before .before .loop-test .taken) (λ e. c .if1 .taken (c .before .before .stay .ensures ∙ e)))
+    let f : ℕ → _ = satisfied (s .args .t .now) (s .args .with) in
+    let v = L .loop .v in
+    sym (fails (each (nodesOf (s .args .t .now)) (s .args .c) f) (λ e.
+    clash (f v)
+    (each-at (nodesOf (s .args .t .now)) (s .args .c) f e v (sym (S .before .before .contains .ensures) ∙ S .before .if1 .taken))
+    (sym (S .satisfied .ensures) ∙ not-holds (S .satisfied .result) (c .if2 .taken))))
 
-add-g : tie.Need-add-g Inv-loop μ-loop
-add-g c =
-    let l = c .before .before .before .loop-test .taken in
-    let w = c .before .before .before .before .before .before .before .pre .grouped .fits in
-    omega arith
+add-v : tie.Need-add-v Inv-loop μ-loop
+add-v c = omega arith
 
 loop-less : tie.Need-loop-less Inv-loop μ-loop
-loop-less c = let l = c .before .before .before .loop-test .taken in omega arith
+loop-less c = omega arith
 
 loop-again : tie.Need-loop-again Inv-loop μ-loop
 loop-again c =
-    let L = c .before .before .before .before in
-    let l = c .before .before .before .loop-test .taken in
-    (omega arith, below-more _ _ (L .loop .inv .1) (sym (c .before .before .stay .ensures) ∙ c .if1 .left))
+    let C = c .before in
+    let L = C .before .before in (
+      omega arith,
+      below-more _ _ (L .loop .inv .1) (λ p.
+          ⊎-elim
+          (λ w. sym (w .1 .ensures) ∙ not-fails (w .1 .result) (w .2 .left))
+          (λ w. clash (C .contains .result) (C .contains .ensures ∙ p) (w .left))
+          (c .if1 .came)),
+    )
 
 returns-2 : tie.Need-returns-2 Inv-loop μ-loop
 returns-2 c =
     let L = c .before in
     let s = L .before .before .before in
-    let e : L .loop .g ≡ s .args .groups = let i = L .loop .inv .0 in omega (arith, c .loop-test .left) in
-    sym (all-whole (s .args .t .now) (s .args .plan .now) (s .args .groups) (s .args .with) (s .args .c) (s .pre .grouped) (s .pre .inside)
-    (λ j l. L .loop .inv .1 j (omega arith)))
+    let n = nodesOf (s .args .t .now) in
+    let f : ℕ → _ = satisfied (s .args .t .now) (s .args .with) in
+    sym (at-each n (s .args .c) f (s .pre .inside) (λ i p.
+    let l = has-below n (s .args .c) i (s .pre .inside) p in
+    L .loop .inv .1 i (omega (arith, s .pre .all-nodes, c .loop-test .left)) p))
 
 pub settled-spec : {M : Type 1} → statement M
 settled-spec =
@@ -83,13 +80,10 @@ settled-spec =
     Inv-loop
     μ-loop
     loop-holds
-    stay-requires
-    mul-if1
-    add-if1
-    mul-if1-2
-    shared-slice-read-if1
+    contains-requires
+    satisfied-requires
     returns
-    add-g
+    add-v
     loop-less
     loop-again
     returns-2)

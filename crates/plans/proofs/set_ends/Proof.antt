@@ -8,9 +8,9 @@ use borrow.Author.Tests.{le-leb, lt-leb}
 use lib.Dec.{leb, eqb}
 use Rattle.sets.proofs.Bools.{or-left}
 use Rattle.meanings.specs.Table.{records, level}
-use Rattle.groups.specs.Alike.{setEnds}
-use Rattle.groups.proofs.set_ends.Statement.{statement}
-use Rattle.groups.proofs.set_ends.Tie as tie
+use Rattle.plans.specs.Alike.{setEnds}
+use Rattle.plans.proofs.set_ends.Statement.{statement}
+use Rattle.plans.proofs.set_ends.Tie as tie
 
 level-requires : tie.Need-level-requires
 level-requires c κs = search needs

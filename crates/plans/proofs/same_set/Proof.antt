@@ -8,10 +8,10 @@ use borrow.Author.Needs.{needs}
 use borrow.Author.Count.{below-more}
 use Rattle.sets.proofs.Bools.{clash}
 use Rattle.meanings.specs.Table.{records}
-use Rattle.groups.specs.Alike.{sameRecord}
-use Rattle.groups.proofs.Alike.{not-ended, same-alike}
-use Rattle.groups.proofs.same_set.Statement.{statement}
-use Rattle.groups.proofs.same_set.Tie as tie
+use Rattle.plans.specs.Alike.{sameRecord}
+use Rattle.plans.proofs.SameSets.{not-ended, same-alike}
+use Rattle.plans.proofs.same_set.Statement.{statement}
+use Rattle.plans.proofs.same_set.Tie as tie
 
 abbrev Inv-loop : tie.InvT-loop
 Inv-loop t a b i₀ i =

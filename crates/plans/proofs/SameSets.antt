@@ -17,7 +17,7 @@ use Rattle.meanings.specs.Table.{records, control, members, threshold, level, s
 use Rattle.meanings.specs.Faults.{check, sound}
 use Rattle.tables.proofs.Runs.{innerFrom, from-end, from-stop, from-hit, from-miss, from-deeper}
 use Rattle.judge.proofs.Laws.{judged-last, judged-more}
-use Rattle.groups.specs.Alike.{Alike, sameRecord, setEnds}
+use Rattle.plans.specs.Alike.{Alike, sameRecord, setEnds}
 
 -- ---- records written the same
 module _ (t : List ℕ) (a b : ℕ) (s : sameRecord t a b ≡ true) where

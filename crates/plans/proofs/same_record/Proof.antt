@@ -6,9 +6,9 @@ use borrow.Author.Tests.{eq-eqb, ne-eqb}
 use lib.Dec.{eqb}
 use Rattle.sets.proofs.Bools.{and-left-fails}
 use Rattle.meanings.specs.Table.{records, control, members}
-use Rattle.groups.specs.Alike.{sameRecord}
-use Rattle.groups.proofs.same_record.Statement.{statement}
-use Rattle.groups.proofs.same_record.Tie as tie
+use Rattle.plans.specs.Alike.{sameRecord}
+use Rattle.plans.proofs.same_record.Statement.{statement}
+use Rattle.plans.proofs.same_record.Tie as tie
 
 control-requires : tie.Need-control-requires
 unfolding records
