@@ -239,9 +239,9 @@ module _ (t : List ℕ) (r : ℕ) where
   unfolding entries
   entries-run s l h = ap₂ (λ (a b : ℕ). a + b) (ones-size 64 (members t r) h) (sym (inner-count t r (shapes-in-step t s) l))
 
--- a mask lies within the first n nodes where nothing is left of it n places up
-pub within-shift : (m n : ℕ) → not (within m (everyone n)) ≡ not (eqb (m / 2 ^ n) 0)
-within-shift m n = ap not (bool-ext (within m (everyone n)) (eqb (m / 2 ^ n) 0) shifted fitting)
+-- a set lies within the first n nodes where nothing is left of it n places up
+pub within-shift : (m n : ℕ) → within m (everyone n) ≡ eqb (m / 2 ^ n) 0
+within-shift m n = bool-ext (within m (everyone n)) (eqb (m / 2 ^ n) 0) shifted fitting
   where
     shifted : within m (everyone n) ≡ true → eqb (m / 2 ^ n) 0 ≡ true
     shifted e = eq-eqb (m / 2 ^ n) 0 (div-eq-of-lt (within-lt n m (everyone n) (everyone-lt n) e))
@@ -252,5 +252,5 @@ within-shift m n = ap not (bool-ext (within m (everyone n)) (eqb (m / 2 ^ n) 0) 
         let l : m < 2 ^ n = subst (λ (k : ℕ). m < k) (one-mul (2 ^ n)) (div-lt-iff-lt-mul (pow-pos n) .0 h) in
         sub-within n m (everyone n) l (everyone-all n m l)
 
-pub within-all : (m : ℕ) → m < 2 ^ 64 → not (within m (everyone 64)) ≡ false
-within-all m h = ap not (sub-within 64 m (everyone 64) h (everyone-all 64 m h))
+pub within-all : (m : ℕ) → m < 2 ^ 64 → within m (everyone 64) ≡ true
+within-all m h = sub-within 64 m (everyone 64) h (everyone-all 64 m h)

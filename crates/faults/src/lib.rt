@@ -1,14 +1,17 @@
-// Is this list of words a packed table? Document 01, 'The packed table' (bounds) and 'Numbers given back', numbers 1 to 7.
+// Is this list of words a packed table? Document 01, 'The packed table' (bounds) and 'Numbers given back', numbers 1 to 7. Every question
+// opens with it: a fault is handed on (`fault_of`), and then its sets must lie within the nodes (`inside`), or the number is 8.
 // Two passes over the records: the first finds any of 2 to 5 and counts the nodes, the second finds 6 or 7. A record's inner sets
 // are counted by walking the run of deeper records after it, so each record is walked by those above it, three at most.
 ghost use mathlib.Core.Path.{_≡_};
-ghost use mathlib.Core.Bool.{not, true};
+ghost use mathlib.Core.Bool.{true};
 ghost use Prim.Native.Nat.{_+_, _*_, _<_, _≤_, _-_};
 ghost use lib.ListN.{length};
 ghost use Rattle.sets.specs.Sets.{within, everyone};
 ghost use Rattle.meanings.specs.Table.{records, nodes as nodesOf, level as levelOf, entries as entriesOf};
 ghost use Rattle.meanings.specs.Faults.{badCount, shapeFault, entryFault};
 ghost use Rattle.meanings.specs.Questions.{checkReply, onCheck};
+ghost use Rattle.answers.specs.declared.Fault.{Fault as FaultOf};
+ghost use Rattle.answers.specs.declared.Checked.the-variants as Cx;
 ghost use Rattle.answers.specs.Said.{checkedSays};
 ghost use Rattle.tables.specs.Run.{innerRun};
 ghost use Rattle.tables.specs.Heads.{headsBefore};
@@ -125,15 +128,15 @@ fn entries(t: &[u64], r: usize) -> u64
     u64::count_ones(tables::members(t, r)) as u64 + inner_sets(t, r)
 }
 
-// Whether a mask has a member that is none of so many nodes.
-fn strangers(mask: u64, nodes: u64) -> bool
+// Whether a set lies within so many nodes. Any word lies within 64, and no shift goes that far.
+pub fn inside(set: u64, nodes: u64) -> bool
     requires { ⌜ nodes ≤ 64 ⌝ }
-    ensures { λ o. ⌜ o ≡ not (within mask (everyone nodes)) ⌝ }
+    ensures { λ o. ⌜ o ≡ within set (everyone nodes) ⌝ }
 {
     if nodes == 64 {
-        return false;
+        return true;
     }
-    mask >> nodes != 0
+    set >> nodes == 0
 }
 
 // Record r of a table of so many nodes: the first of 6 and 7 that it meets, or the nodes and the records up to its end.
@@ -142,7 +145,7 @@ fn entry(t: &[u64], r: usize, nodes: u64) -> Checked
     ensures { λ o. ⌜ checkedSays o ≡ onCheck (entryFault (now (t .entry)) r) (counted nodes (r + 1)) ⌝ }
 {
     let place = r as u64 + 1;
-    if strangers(tables::members(t, r), nodes) {
+    if !inside(tables::members(t, r), nodes) {
         return Checked::Bad(Fault::Member(place));
     }
     if entries(t, r) < tables::threshold(t, r) {
@@ -189,4 +192,15 @@ pub fn check_table(table: &[u64]) -> Checked
         return shape;
     };
     all_entries(table, nodes)
+}
+
+// The fault of a table that is turned away, for a question to hand on; no other check is asked about.
+pub fn fault_of(checked: Checked) -> Fault
+    requires { ⌜ ((f : FaultOf) × (checked ≡ Cx.Bad f)) ⌝ }
+    ensures { λ o. ⌜ checked ≡ Cx.Bad o ⌝ }
+{
+    let Checked::Bad(fault) = checked else {
+        return Fault::Count(0);
+    };
+    fault
 }

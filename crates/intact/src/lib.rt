@@ -159,9 +159,9 @@ pub fn intact_nodes(table: &[u64], ill: u64, allowance: u64) -> Intact
 {
     let checked = faults::check_table(table);
     let Checked::Sound { nodes, records: _ } = checked else {
-        return Intact::Bad(quorums::fault_of(checked));
+        return Intact::Bad(faults::fault_of(checked));
     };
-    if !quorums::inside(ill, nodes) {
+    if !faults::inside(ill, nodes) {
         return Intact::Outside;
     }
     intact_of(table, nodes, ill, allowance)

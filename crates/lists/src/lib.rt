@@ -55,7 +55,7 @@ fn answer(table: &[u64], sought: Sought, allowance: u64, lent: &mut [u64]) -> Li
 {
     let checked = faults::check_table(table);
     let Checked::Sound { nodes, records: _ } = checked else {
-        return Listed::Bad(quorums::fault_of(checked));
+        return Listed::Bad(faults::fault_of(checked));
     };
     let mut plan = [0u64; 192];
     plans::plan(table, &mut plan);

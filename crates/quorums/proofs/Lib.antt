@@ -1,3 +1,2 @@
-pub mod Opening
 pub mod Meaning
 pub mod Exact

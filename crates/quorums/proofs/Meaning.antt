@@ -27,7 +27,7 @@ use Rattle.theory.proofs.Quorum.{quorum-is, is-quorum}
 use Rattle.theory.proofs.Greatest.{greatest-lt, greatest-sub, greatest-has, greatest-quorum, greatest-unique}
 use Rattle.theory.proofs.Rounds.{rounds-none, rounds-some}
 use Rattle.judge.proofs.Monotone.{satisfied-monotone}
-use Rattle.quorums.proofs.Opening.{inside-lt}
+use Rattle.faults.proofs.Opening.{inside-lt}
 
 not-not : (b : Bool) → not (not b) ≡ b
 not-not true = refl

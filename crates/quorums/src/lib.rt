@@ -2,43 +2,18 @@
 // node? Any list of words may be asked about: the numbers 1 to 7 of its table come first, then 8, then the answer.
 ghost use mathlib.Core.Path.{_≡_};
 ghost use mathlib.Core.Bool.{true};
-ghost use Prim.Native.Nat.{_<_, _≤_};
+ghost use Prim.Native.Nat.{_<_};
 ghost use Rattle.sets.specs.Sets.{within as withinSet, everyone};
 ghost use Rattle.meanings.specs.Table.{nodes as nodesOf, satisfied};
 ghost use Rattle.meanings.specs.Faults.{check, sound};
 ghost use Rattle.meanings.specs.Quorums.{quorum, greatest, blocks};
 ghost use Rattle.meanings.specs.Rounds.{rounds};
 ghost use Rattle.meanings.specs.Questions.{yesOrNo, quorumReply, greatestReply, blocksReply};
-ghost use Rattle.answers.specs.declared.Fault.{Fault as FaultOf};
-ghost use Rattle.answers.specs.declared.Checked.the-variants as Cx;
 ghost use Rattle.answers.specs.declared.Greatest.the-variants as Gx;
 ghost use Rattle.answers.specs.Said.{judgedSays, greatestSays};
 use answers::Checked;
-use answers::Fault;
 use answers::Greatest;
 use answers::Judged;
-
-// The fault of a table that is turned away, for a question to hand on; no other check is asked about.
-pub fn fault_of(checked: Checked) -> Fault
-    requires { ⌜ ((f : FaultOf) × (checked ≡ Cx.Bad f)) ⌝ }
-    ensures { λ o. ⌜ checked ≡ Cx.Bad o ⌝ }
-{
-    let Checked::Bad(fault) = checked else {
-        return Fault::Count(0);
-    };
-    fault
-}
-
-// Whether a set lies within so many nodes. Any word lies within 64, and no shift goes that far.
-pub fn inside(set: u64, nodes: u64) -> bool
-    requires { ⌜ nodes ≤ 64 ⌝ }
-    ensures { λ o. ⌜ o ≡ withinSet set (everyone nodes) ⌝ }
-{
-    if nodes == 64 {
-        return true;
-    }
-    set >> nodes == 0
-}
 
 // A question answered by yes or no.
 fn yes_or_no(yes: bool) -> Judged
@@ -90,9 +65,9 @@ pub fn is_quorum(table: &[u64], out: u64, set: u64) -> Judged
 {
     let checked = faults::check_table(table);
     let Checked::Sound { nodes, records: _ } = checked else {
-        return Judged::Bad(fault_of(checked));
+        return Judged::Bad(faults::fault_of(checked));
     };
-    if !inside(out | set, nodes) {
+    if !faults::inside(out | set, nodes) {
         return Judged::Outside;
     }
     yes_or_no(quorum_of(table, out, set))
@@ -104,9 +79,9 @@ pub fn greatest_quorum(table: &[u64], out: u64, within: u64) -> Greatest
 {
     let checked = faults::check_table(table);
     let Checked::Sound { nodes, records: _ } = checked else {
-        return Greatest::Bad(fault_of(checked));
+        return Greatest::Bad(faults::fault_of(checked));
     };
-    if !inside(out | within, nodes) {
+    if !faults::inside(out | within, nodes) {
         return Greatest::Outside;
     }
     greatest_of(table, out, within)
@@ -118,9 +93,9 @@ pub fn blocks_node(table: &[u64], set: u64, node: u64) -> Judged
 {
     let checked = faults::check_table(table);
     let Checked::Sound { nodes, records: _ } = checked else {
-        return Judged::Bad(fault_of(checked));
+        return Judged::Bad(faults::fault_of(checked));
     };
-    if !inside(set, nodes) {
+    if !faults::inside(set, nodes) {
         return Judged::Outside;
     }
     if nodes <= node {

@@ -128,9 +128,9 @@ pub fn intersect(table: &[u64], out: u64, allowance: u64) -> Verdict
 {
     let checked = faults::check_table(table);
     let Checked::Sound { nodes, records: _ } = checked else {
-        return Verdict::Bad(quorums::fault_of(checked));
+        return Verdict::Bad(faults::fault_of(checked));
     };
-    if !quorums::inside(out, nodes) {
+    if !faults::inside(out, nodes) {
         return Verdict::Outside;
     }
     decide(table, nodes, out, allowance)

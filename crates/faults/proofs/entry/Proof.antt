@@ -1,5 +1,6 @@
 -- The two tests are those of the definition, in its order; the nodes of a table without any of 2 to 5 are 64 at most.
 use mathlib.Core.Path.{_≡_, sym, ap, _∙_}
+use mathlib.Core.Bool.{not}
 use Prim.Native.Nat.{_+_, _<_, _≤_}
 use native.Mathlib.Omega.{arith}
 use borrow.Author.Needs.{needs}
@@ -18,8 +19,8 @@ add-place c = search needs
 members-requires : tie.Need-members-requires
 members-requires c κs = search needs
 
-strangers-requires : tie.Need-strangers-requires
-strangers-requires c κs =
+inside-requires : tie.Need-inside-requires
+inside-requires c κs =
     let s = c .before .before in
     omega (arith, shapes-nodes (s .args .t .now) (s .pre .2), s .pre .1)
 
@@ -30,10 +31,10 @@ threshold-requires : tie.Need-threshold-requires
 threshold-requires c κs = search needs
 
 -- what the test for strangers said
-strange : (c : tie.After-strangers) → let s = c .before .before .before in c .strangers .result ≡ strangers (s .args .t .now) (s .args .r)
+strange : (c : tie.After-inside) → let s = c .before .before .before in not (c .inside .result) ≡ strangers (s .args .t .now) (s .args .r)
 strange c =
     let s = c .before .before .before in
-    c .strangers .ensures
+    ap not (c .inside .ensures)
     ∙ strangers-are (s .args .t .now) (s .args .r) (c .before .members .result) (s .args .nodes) (c .before .members .ensures .0) (s .pre .1)
 
 returns : tie.Need-returns
@@ -69,7 +70,7 @@ entry-spec =
     (tie.spec
     add-place
     members-requires
-    strangers-requires
+    inside-requires
     returns
     entries-requires
     threshold-requires

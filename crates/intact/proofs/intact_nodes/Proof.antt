@@ -15,7 +15,7 @@ use Rattle.answers.specs.declared.Checked.the-variants as Cx
 use Rattle.answers.specs.declared.Intact.{Intact}
 use Rattle.answers.specs.declared.Intact.the-variants.{Outside, Bad}
 use Rattle.faults.proofs.Known.{fault-known}
-use Rattle.quorums.proofs.Opening.{Passed, past-check, set-inside, set-outside, set-answered}
+use Rattle.faults.proofs.Opening.{Passed, past-check, set-inside, set-outside, set-answered}
 use Rattle.intact.specs.Rounds.{within}
 use Rattle.intact.proofs.Meaning.{says-within, promised}
 use borrow.Author.Needs.{needs}

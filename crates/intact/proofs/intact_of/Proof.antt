@@ -5,7 +5,7 @@ use Prim.Native.Nat.{ℕ, _^_, _<_, _≤_}
 use Rattle.sets.specs.Sets.{everyone}
 use Rattle.meanings.specs.Table.{nodes}
 use Rattle.tables.proofs.Sound.{sound-table}
-use Rattle.quorums.proofs.Opening.{inside-lt}
+use Rattle.faults.proofs.Opening.{inside-lt}
 use borrow.Author.Needs.{needs}
 use Rattle.intact.proofs.intact_of.Statement.{statement}
 use Rattle.intact.proofs.intact_of.Tie as tie

@@ -6,7 +6,7 @@ use borrow.Author.Tests.{lt-ltb, le-ltb}
 use Rattle.meanings.specs.Table.{nodes}
 use Rattle.meanings.specs.Questions.{yesOrNo, blocksReply}
 use Rattle.faults.proofs.Known.{fault-known}
-use Rattle.quorums.proofs.Opening.{Passed, past-check, set-outside, then-outside, then-answered}
+use Rattle.faults.proofs.Opening.{Passed, past-check, set-outside, then-outside, then-answered}
 use borrow.Author.Needs.{needs}
 use Rattle.quorums.proofs.blocks_node.Statement.{statement}
 use Rattle.quorums.proofs.blocks_node.Tie as tie

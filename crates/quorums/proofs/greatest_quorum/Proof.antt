@@ -4,7 +4,7 @@ use Rattle.sets.specs.Sets.{within}
 use Rattle.meanings.specs.Questions.{greatestReply}
 use Rattle.answers.specs.Said.{greatestSays}
 use Rattle.faults.proofs.Known.{fault-known}
-use Rattle.quorums.proofs.Opening.{Passed, past-check, sets-outside, sets-answered, second-inside}
+use Rattle.faults.proofs.Opening.{Passed, past-check, sets-outside, sets-answered, second-inside}
 use borrow.Author.Needs.{needs}
 use Rattle.quorums.proofs.greatest_quorum.Statement.{statement}
 use Rattle.quorums.proofs.greatest_quorum.Tie as tie

@@ -2,7 +2,7 @@
 use mathlib.Core.Path.{_∙_, ap}
 use Rattle.meanings.specs.Questions.{yesOrNo, quorumReply}
 use Rattle.faults.proofs.Known.{fault-known}
-use Rattle.quorums.proofs.Opening.{Passed, past-check, sets-outside, sets-answered, second-inside}
+use Rattle.faults.proofs.Opening.{Passed, past-check, sets-outside, sets-answered, second-inside}
 use borrow.Author.Needs.{needs}
 use Rattle.quorums.proofs.is_quorum.Statement.{statement}
 use Rattle.quorums.proofs.is_quorum.Tie as tie

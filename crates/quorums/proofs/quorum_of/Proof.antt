@@ -1,7 +1,7 @@
 -- The records of all nodes are found, and the set is one of nodes, which is all that judging it asks.
 use Prim.Native.Nat.{_<_, _^_}
 use Rattle.meanings.specs.Table.{nodes}
-use Rattle.quorums.proofs.Opening.{inside-lt}
+use Rattle.faults.proofs.Opening.{inside-lt}
 use borrow.Author.Needs.{needs}
 use Rattle.quorums.proofs.quorum_of.Statement.{statement}
 use Rattle.quorums.proofs.quorum_of.Tie as tie

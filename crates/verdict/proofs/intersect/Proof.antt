@@ -5,7 +5,7 @@ use Rattle.meanings.specs.Trees.{verdictTree, walk}
 use Rattle.meanings.specs.Questions.{verdictReply, verdictSays as replySays}
 use Rattle.answers.specs.Said.{verdictSays}
 use Rattle.faults.proofs.Known.{fault-known}
-use Rattle.quorums.proofs.Opening.{Passed, past-check, set-outside, set-answered}
+use Rattle.faults.proofs.Opening.{Passed, past-check, set-outside, set-answered}
 use Rattle.verdict.proofs.Meaning.{says-within, kept-bad, kept-outside, kept-search}
 use borrow.Author.Needs.{needs}
 use Rattle.verdict.proofs.intersect.Statement.{statement}

@@ -4,8 +4,7 @@ use mathlib.Core.Path.{_≡_, refl, sym, ap, ap₂, _∙_, subst}
 use mathlib.Core.Bool.{Bool, true, false, not, _&&_}
 use mathlib.Core.Logic.{⊎-elim}
 use mathlib.Core.List.{List, []}
-use Prim.Native.Nat.{ℕ, _/_, _^_, _<_, _≤_}
-use lib.Dec.{eqb}
+use Prim.Native.Nat.{ℕ, _^_, _<_, _≤_}
 use Rattle.sets.specs.Sets.{within, everyone, _∪_}
 use Rattle.sets.proofs.Bools.{and-parts, and-both, not-holds, not-fails, bool-ext}
 use Rattle.sets.proofs.Members.{∪-left, ∪-right, ∪-cases, ∪-lt, everyone-lt, within-sub, sub-within, within-lt}
@@ -17,18 +16,7 @@ use Rattle.answers.specs.declared.Checked.{Checked}
 use Rattle.answers.specs.declared.Checked.the-variants as Cx
 use Rattle.answers.specs.Said.{checkedSays}
 use Rattle.tables.proofs.Sound.{sound-table}
 use Rattle.faults.proofs.Known.{sound-known}
-use Rattle.faults.proofs.Laws.{within-shift}
-
-not-same : (a b : Bool) → not a ≡ not b → a ≡ b
-not-same true true e = refl
-not-same true false e = sym e
-not-same false true e = sym e
-not-same false false e = refl
-
--- a set lies within the first n nodes where nothing is left of it n places up
-pub within-nodes : (m n : ℕ) → within m (everyone n) ≡ eqb (m / 2 ^ n) 0
-within-nodes m n = not-same (within m (everyone n)) (eqb (m / 2 ^ n) 0) (within-shift m n)
 
 pub inside-lt : (m n : ℕ) → within m (everyone n) ≡ true → m < 2 ^ n
 inside-lt m n e = within-lt n m (everyone n) (everyone-lt n) e
