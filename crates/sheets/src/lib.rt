@@ -80,10 +80,15 @@ pub fn read_sheet(sheet: &[u8], table: &mut [u64]) -> Read
         return taken;
     };
     let k = count as usize;
-    let Checked::Bad(fault) = faults::check_table(&words[..k]) else {
-        return fill_table(&words[..k], table);
+    let checked = faults::check_table(&words[..k]);
+    let Checked::Sound {
+        nodes: _,
+        records: _,
+    } = checked
+    else {
+        return Read::Bad(faults::fault_of(checked));
     };
-    Read::Bad(fault)
+    fill_table(&words[..k], table)
 }
 
 // How many bytes the text of a table takes.
@@ -138,8 +143,13 @@ fn fill_sheet(table: &[u64], sheet: &mut [u8]) -> Wrote
 pub fn write_sheet(table: &[u64], sheet: &mut [u8]) -> Wrote
     ensures { λ r. ⌜ WritePromise (now (table .entry)) (now (sheet .entry)) (now (sheet .exit)) r ⌝ }
 {
-    let Checked::Bad(fault) = faults::check_table(table) else {
-        return fill_sheet(table, sheet);
+    let checked = faults::check_table(table);
+    let Checked::Sound {
+        nodes: _,
+        records: _,
+    } = checked
+    else {
+        return Wrote::Bad(faults::fault_of(checked));
     };
-    Wrote::Bad(fault)
+    fill_sheet(table, sheet)
 }

@@ -47,11 +47,24 @@ slice-aggregate-check-table c =
 check-table-requires : tie.Need-check-table-requires
 check-table-requires c κs = search needs
 
-enum-known-fault : tie.Need-enum-known-fault
-enum-known-fault c = search needs
-
 enum-told : tie.Need-enum-told
 enum-told c = search needs
+
+enum-told-2 : tie.Need-enum-told-2
+enum-told-2 c = search needs
+
+fault-of-requires : tie.Need-fault-of-requires
+fault-of-requires c κs = search needs
+
+returns-2 : tie.Need-returns-2
+returns-2 c =
+    let h = c .before .before .before in
+    let k = h .before .before in
+    let t = k .before .before .before .before in
+    let a = t .before .before .before .before .args in
+    let w = take (k .before .taken .given .0 .0) (t .take-lines .last .1 .0) in
+    read-goes (a .sheet .now) (a .table .now) w (counted k .0) (a .table .now) (faultSays (c .fault-of .result))
+    (checked-bad w (h .check-table .result) (h .check-table .ensures) (c .fault-of .result) (c .fault-of .ensures) w (a .table .now) (roomReply w (length (a .table .now))))
 
 array-share-prefix-words-2 : tie.Need-array-share-prefix-words-2
 array-share-prefix-words-2 c = counted (c .before .before .before .before) .1
@@ -67,8 +80,8 @@ fill-table-requires c κs = search needs
 same-length : tie.Need-same-length
 same-length c = search needs
 
-returns-2 : tie.Need-returns-2
-returns-2 c =
+returns-3 : tie.Need-returns-3
+returns-3 c =
     let p = c .before .before in
     let e = p .before .before .before in
     let h = e .before .before in
@@ -78,17 +91,6 @@ returns-2 c =
     let w = take (k .before .taken .given .0 .0) (t .take-lines .last .1 .0) in
     let s : check w ≡ sound = checked-sound w (h .check-table .result) (h .check-table .ensures) _ _ (e .enum-told .given .1) in
     read-goes (a .sheet .now) (a .table .now) w (counted k .0) (p .fill-table .last .1 .0) (readSays (p .fill-table .result)) (rw s (p .fill-table .ensures))
-
-returns-3 : tie.Need-returns-3
-returns-3 c =
-    let h = c .before .before .before in
-    let k = h .before .before in
-    let t = k .before .before .before .before in
-    let a = t .before .before .before .before .args in
-    let w = take (k .before .taken .given .0 .0) (t .take-lines .last .1 .0) in
-    let f = c .before .fault .given in
-    read-goes (a .sheet .now) (a .table .now) w (counted k .0) (a .table .now) (faultSays (f .0 .0))
-    (checked-bad w (h .check-table .result) (h .check-table .ensures) (f .0 .0) (f .1) w (a .table .now) (roomReply w (length (a .table .now))))
 
 pub read-sheet-spec : {M : Type 1} → statement M
 read-sheet-spec =
@@ -101,11 +103,12 @@ read-sheet-spec =
     array-share-prefix-words
     slice-aggregate-check-table
     check-table-requires
-    enum-known-fault
     enum-told
+    enum-told-2
+    fault-of-requires
+    returns-2
     array-share-prefix-words-2
     slice-aggregate-fill-table
     fill-table-requires
     same-length
-    returns-2
     returns-3)

@@ -11,11 +11,22 @@ use Rattle.sheets.proofs.write_sheet.Tie as tie
 check-table-requires : tie.Need-check-table-requires
 check-table-requires c κs = search needs
 
-enum-known-fault : tie.Need-enum-known-fault
-enum-known-fault c = search needs
-
 enum-told : tie.Need-enum-told
 enum-told c = search needs
+
+enum-told-2 : tie.Need-enum-told-2
+enum-told-2 c = search needs
+
+fault-of-requires : tie.Need-fault-of-requires
+fault-of-requires c κs = search needs
+
+returns : tie.Need-returns
+unfolding writeReply
+returns c =
+    let k = c .before .before .before in
+    let a = k .before .before .before .args in
+    checked-bad (a .table .now) (k .check-table .result) (k .check-table .ensures) (c .fault-of .result) (c .fault-of .ensures) (sheetText (a .table .now)) (a .sheet .now)
+    (roomReply (sheetText (a .table .now)) (length (a .sheet .now)))
 
 -- the table is sound
 found : (c : tie.After-enum-told) → check (c .before .before .before .before .before .args .table .now) ≡ sound
@@ -29,28 +40,21 @@ fill-sheet-requires c κs = found (c .before)
 same-length : tie.Need-same-length
 same-length c = search needs
 
-returns : tie.Need-returns
-unfolding writeReply
-returns c =
-    let p = c .before .before in
-    rw (found (p .before .before)) (p .fill-sheet .ensures)
-
 returns-2 : tie.Need-returns-2
 unfolding writeReply
 returns-2 c =
-    let k = c .before .before .before in
-    let a = k .before .before .before .args in
-    checked-bad (a .table .now) (k .check-table .result) (k .check-table .ensures) (c .before .fault .given .0 .0) (c .before .fault .given .1) (sheetText (a .table .now)) (a .sheet .now)
-    (roomReply (sheetText (a .table .now)) (length (a .sheet .now)))
+    let p = c .before .before in
+    rw (found (p .before .before)) (p .fill-sheet .ensures)
 
 pub write-sheet-spec : {M : Type 1} → statement M
 write-sheet-spec =
     tie.close
     (tie.spec
     check-table-requires
-    enum-known-fault
     enum-told
+    enum-told-2
+    fault-of-requires
+    returns
     fill-sheet-requires
     same-length
-    returns
     returns-2)
