@@ -15,8 +15,8 @@ use Rattle.meanings.specs.Table.{nodes, satisfied}
 use Rattle.meanings.specs.Faults.{Check, sound, fault, check}
 use Rattle.meanings.specs.Quorums.{minimalQuorums, minimalBlockingSets}
 use Rattle.meanings.specs.Trees.{Listing, listed, broken, list, minimalTree, blockingTree}
-use Rattle.meanings.specs.Replies.{Reply, reply, _is_, Count, Visits, leaves, value}
-use Rattle.meanings.specs.Questions.{onCheck, inRoom, listSays, listPuts, minimalReply, blockingReply}
+use Rattle.meanings.specs.Replies.{Reply, reply, _is_, Count, Visits, leaves, value, valueIn, Lent, lent-exact}
+use Rattle.meanings.specs.Questions.{onCheck, listSays, listPuts, minimalReply, blockingReply}
 use Rattle.theory.proofs.Walks.{visits}
 use Rattle.theory.proofs.Minimal.{minimal-listed, minimal-visits}
 use Rattle.theory.proofs.Blocking.{blocking-listed, blocking-visits}
@@ -26,7 +26,7 @@ use Rattle.answers.specs.declared.Listed.{Listed}
 use Rattle.answers.specs.declared.Listed.the-variants.{Sets, Unsplit}
 use Rattle.answers.specs.Said.{listedSays}
 use Rattle.answers.proofs.Exact.{listed-exact}
-use Rattle.lists.specs.Lists.{Promised, ListsMinimal, ListsBlocking}
+use Rattle.lists.specs.Lists.{ListsMinimal, ListsBlocking}
 
 -- ---- what a tree lists is every such set
 pub minimal-put : (t : List ℕ) → listPuts (list (minimalTree (nodes t) (satisfied t))) ≡ minimalQuorums (nodes t) (satisfied t)
@@ -36,8 +36,8 @@ pub blocking-put : (t : List ℕ) → listPuts (list (blockingTree (nodes t) (sa
 blocking-put t = ap listPuts (blocking-listed (nodes t) (satisfied t) (satisfied-monotone t))
 
 -- ---- two results that both fit are equal
-pub exact : (r : Reply) (own before a b : List ℕ) (x y : Listed) → Promised r own before a x → Promised r own before b y → (x ≡ y) × (a ≡ b)
-exact r own before a b x y p q = (listed-exact x y (p .answers ∙ sym (q .answers)), p .lent ∙ sym (q .lent))
+pub exact : (r : Reply) (own before a b : List ℕ) (x y : Listed) → Lent (listedSays x) r own before a → Lent (listedSays y) r own before b → (x ≡ y) × (a ≡ b)
+exact r own before a b x y p q = let e = lent-exact p q in (listed-exact x y (e .0), e .1)
 
 -- ---- a larger allowance alters no answer: only number 9 depends on it
 pub more-says : (k : Check) (a b room : ℕ) (L : Listing ℕ) → a ≤ b → OnlyNine (onCheck k (listSays a room L)) (onCheck k (listSays b room L))
@@ -47,17 +47,17 @@ more-says k a b room (listed l j) h =
 more-says k a b room (broken j) h = after-check k (listSays a room (broken j)) (listSays b room (broken j)) (larger-says a b j (reply 13 []) h)
 
 module _ (t before after : List ℕ) (a b : ℕ) (h : a ≤ b) (o : Listed) (n : ¬ (listedSays o .number ≡ 9)) where
-  larger : (own : List ℕ) (L : Listing ℕ) → Promised (onCheck (check t) (listSays a (length before) L)) own before after o
-      → Promised (onCheck (check t) (listSays b (length before) L)) own before after o
+  larger : (own : List ℕ) (L : Listing ℕ) → Lent (listedSays o) (onCheck (check t) (listSays a (length before) L)) own before after
+      → Lent (listedSays o) (onCheck (check t) (listSays b (length before) L)) own before after
   larger own L p =
-      subst (λ (x : Reply). Promised x own before after o)
+      subst (λ (x : Reply). Lent (listedSays o) x own before after)
       (sym (more-says (check t) a b (length before) L h (λ z. n (ap (λ (x : Reply). x .number) (p .answers) ∙ z)))) p
 
-  pub minimal-larger : (own : List ℕ) → Promised (minimalReply t a (length before)) own before after o → Promised (minimalReply t b (length before)) own before after o
+  pub minimal-larger : (own : List ℕ) → Lent (listedSays o) (minimalReply t a (length before)) own before after → Lent (listedSays o) (minimalReply t b (length before)) own before after
   unfolding minimalReply
   minimal-larger own = larger own (list (minimalTree (nodes t) (satisfied t)))
 
-  pub blocking-larger : (own : List ℕ) → Promised (blockingReply t a (length before)) own before after o → Promised (blockingReply t b (length before)) own before after o
+  pub blocking-larger : (own : List ℕ) → Lent (listedSays o) (blockingReply t a (length before)) own before after → Lent (listedSays o) (blockingReply t b (length before)) own before after
   unfolding blockingReply
   blocking-larger own = larger own (list (blockingTree (nodes t) (satisfied t)))
 
@@ -87,11 +87,11 @@ module _ (allowance : ℕ) (l : List ℕ) (steps : ℕ) where
   unsplit-case sound false y e = let w : _≡_ {A = ℕ} 13 9 = ap (λ (r : Reply). r .number) e in omega arith
 
   module _ (k : Check) (before after : List ℕ) (L : Listing ℕ) (same : L ≡ listed l steps) where
-    as-listed : (o : Listed) → Promised (onCheck k (listSays allowance (length before) L)) (listPuts L) before after o
-        → Promised (says k (leb steps allowance) (ltb (length before) (length l))) l before after o
-    as-listed o p = subst (λ (x : Listing ℕ). Promised (onCheck k (listSays allowance (length before) x)) (listPuts x) before after o) same p
+    as-listed : (o : Listed) → Lent (listedSays o) (onCheck k (listSays allowance (length before) L)) (listPuts L) before after
+        → Lent (listedSays o) (says k (leb steps allowance) (ltb (length before) (length l))) l before after
+    as-listed o p = subst (λ (x : Listing ℕ). Lent (listedSays o) (onCheck k (listSays allowance (length before) x)) (listPuts x) before after) same p
 
-    all-listed : (count v : ℕ) → Promised (onCheck k (listSays allowance (length before) L)) (listPuts L) before after (Sets count v) → All l steps allowance before after count v
+    all-listed : (count v : ℕ) → Lent (listedSays (Sets count v)) (onCheck k (listSays allowance (length before) L)) (listPuts L) before after → All l steps allowance before after count v
     all-listed count v p =
         let q = as-listed (Sets count v) p in
         let w = answer-case count v k (leb steps allowance) (ltb (length before) (length l)) (q .answers) in
@@ -100,14 +100,14 @@ module _ (allowance : ℕ) (l : List ℕ) (steps : ℕ) where
         let c = w .3 in
         let s = w .4 in
         record {
-          lent = q .lent ∙ sym (ap (λ (r : Reply). leaves (r .number) l before) (q .answers));
+          lent = q .holds ∙ sym (ap (λ (r : Reply). leaves (r .number) l before) (q .answers));
           counted = c;
           visited = s;
           within = omega arith;
           fits = omega arith;
         }
 
-    never-split : Promised (onCheck k (listSays allowance (length before) L)) (listPuts L) before after Unsplit → ⊥
+    never-split : Lent (listedSays Unsplit) (onCheck k (listSays allowance (length before) L)) (listPuts L) before after → ⊥
     never-split p = unsplit-case k (leb steps allowance) (ltb (length before) (length l)) (as-listed Unsplit p .answers)
 
 module _ (t : List ℕ) (allowance : ℕ) (before after : List ℕ) where
@@ -124,11 +124,11 @@ module _ (t : List ℕ) (allowance : ℕ) (before after : List ℕ) where
   Blockings o = ListsBlocking t allowance before after o
 
   -- what the walk of the tree puts there is every such set
-  pub minimal-walked : (o : Listed) → Minimals o → Promised (minimalReply t allowance (length before)) (listPuts (list (minimalTree n s))) before after o
-  minimal-walked o p = subst (λ (l : List ℕ). Promised (minimalReply t allowance (length before)) l before after o) (sym (minimal-put t)) p
+  pub minimal-walked : (o : Listed) → Minimals o → Lent (listedSays o) (minimalReply t allowance (length before)) (listPuts (list (minimalTree n s))) before after
+  minimal-walked o p = subst (λ (l : List ℕ). Lent (listedSays o) (minimalReply t allowance (length before)) l before after) (sym (minimal-put t)) p
 
-  pub blocking-walked : (o : Listed) → Blockings o → Promised (blockingReply t allowance (length before)) (listPuts (list (blockingTree n s))) before after o
-  blocking-walked o p = subst (λ (l : List ℕ). Promised (blockingReply t allowance (length before)) l before after o) (sym (blocking-put t)) p
+  pub blocking-walked : (o : Listed) → Blockings o → Lent (listedSays o) (blockingReply t allowance (length before)) (listPuts (list (blockingTree n s))) before after
+  blocking-walked o p = subst (λ (l : List ℕ). Lent (listedSays o) (blockingReply t allowance (length before)) l before after) (sym (blocking-put t)) p
 
   -- On number 0 the front of the list is every minimal quorum, in the listing order.
   pub minimal-all : (count v : ℕ) → Minimals (Sets count v) → All (minimalQuorums n s) (visits (minimalTree n s)) allowance before after count v

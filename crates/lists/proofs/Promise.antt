@@ -11,7 +11,7 @@ use lib.Dec.{leb, ltb, eqb}
 use lib.ListN.{length, take, drop}
 use lib.Seq.{sets, sets-eq, take-append-seam}
 use Rattle.meanings.specs.Trees.{Tree, Listing, listed, broken, list}
-use Rattle.meanings.specs.Replies.{Reply, Named, reply, _is_, Count, Visits, leaves}
+use Rattle.meanings.specs.Replies.{Reply, Named, reply, _is_, Count, Visits, Lent, untouched}
 use Rattle.meanings.specs.Faults.{Check}
 use Rattle.meanings.specs.Questions.{onCheck, listSays, listPuts}
 use Rattle.answers.specs.declared.Fault.{Fault}
@@ -21,31 +21,26 @@ use Rattle.answers.specs.declared.Listed.the-variants.{Sets, Short, Spent, Unsp
 use Rattle.answers.specs.Said.{faultSays, listedSays}
 use Rattle.walks.specs.Walked.{answered, Walked}
 use Rattle.walks.proofs.Laws.{Refuses, Told, told}
-use Rattle.lists.specs.Lists.{Promised}
-
--- a number above 0 leaves the lent list as it was
-pub untouched : (r : Reply) (own before : List ℕ) (o : Listed) → listedSays o ≡ r → eqb (r .number) 0 ≡ false → Promised r own before before o
-untouched r own before o e z = record { answers = e; lent = rw (leaves, z) }
 
 module _ (L : Listing ℕ) (allowance : ℕ) (before : List ℕ) where
   abbrev R : Reply
   R = listSays allowance (length before) L
 
-  handed : (k : ℕ) (names : List Named) (o : Listed) → R ≡ reply k names → listedSays o ≡ reply k names → eqb k 0 ≡ false → Promised R (listPuts L) before before o
-  handed k names o e s z = untouched R (listPuts L) before o (s ∙ sym e) (ap (λ (x : Reply). eqb (x .number) 0) e ∙ z)
+  handed : (k : ℕ) (names : List Named) (o : Listed) → R ≡ reply k names → listedSays o ≡ reply k names → eqb k 0 ≡ false → Lent (listedSays o) R (listPuts L) before before
+  handed k names o e s z = untouched (s ∙ sym e) (ap (λ (x : Reply). eqb (x .number) 0) e ∙ z)
 
 -- 9 and 13, as the walk meets them
 pub walk-refused : (L : Listing ℕ) (allowance : ℕ) (before : List ℕ) (o : Listed) → o ≡ answered allowance 0 0 L → Refuses o
-    → Promised (listSays allowance (length before) L) (listPuts L) before before o
+    → Lent (listedSays o) (listSays allowance (length before) L) (listPuts L) before before
 walk-refused (listed l k) allowance before o e n = go (leb k allowance) refl (e ∙ ap (λ (j : ℕ). cond (leb j allowance) (Sets (0 + length l) j) (Spent allowance)) (zero-add k))
   where
     go : (b : Bool) → leb k allowance ≡ b → o ≡ cond b (Sets (0 + length l) k) (Spent allowance)
-        → Promised (listSays allowance (length before) (listed l k)) l before before o
+        → Lent (listedSays o) (listSays allowance (length before) (listed l k)) l before before
     go true q z = absurd (n (0 + length l) k z)
     go false q z = handed (listed l k) allowance before 9 (Visits is allowance ∷ []) o (rw q) (ap listedSays z) refl
 walk-refused (broken k) allowance before o e n = go (leb k allowance) refl (e ∙ ap (λ (j : ℕ). cond (leb j allowance) Unsplit (Spent allowance)) (zero-add k))
   where
-    go : (b : Bool) → leb k allowance ≡ b → o ≡ cond b Unsplit (Spent allowance) → Promised (listSays allowance (length before) (broken k)) [] before before o
+    go : (b : Bool) → leb k allowance ≡ b → o ≡ cond b Unsplit (Spent allowance) → Lent (listedSays o) (listSays allowance (length before) (broken k)) [] before before
     go true q z = handed (broken k) allowance before 13 [] o (rw q) (ap listedSays z) refl
     go false q z = handed (broken k) allowance before 9 (Visits is allowance ∷ []) o (rw q) (ap listedSays z) refl
 
@@ -65,15 +60,15 @@ module _ (L : Listing ℕ) (allowance : ℕ) (before : List ℕ) (count visits :
       ap (listSays allowance (length before)) (p .same) ∙ rw (le-leb (p .steps) allowance (omega arith), ← c, ← v)
 
   -- 10, with the count needed
-  pub too-short : length before < count → Promised (listSays allowance (length before) L) (listPuts L) before before (Short count)
+  pub too-short : length before < count → Lent (listedSays (Short count)) (listSays allowance (length before) L) (listPuts L) before before
   too-short h = handed L allowance before 10 (Count is count ∷ []) (Short count) (in-room ∙ rw (lt-ltb (length before) count h)) refl refl
 
   -- 0, with the sets at the front
   pub in-front : count ≤ length before → (after : List ℕ) → after ≡ listPuts L ++ drop (length (listPuts L)) before
-      → Promised (listSays allowance (length before) L) (listPuts L) before after (Sets count visits)
+      → Lent (listedSays (Sets count visits)) (listSays allowance (length before) L) (listPuts L) before after
   in-front h after e =
       let r : listSays allowance (length before) L ≡ reply 0 (Count is count ∷ Visits is visits ∷ []) = in-room ∙ rw (le-ltb (length before) count h) in
-      subst (λ (x : Reply). Promised x (listPuts L) before after (Sets count visits)) (sym r) (record { answers = refl; lent = e })
+      subst (λ (x : Reply). Lent (listedSays (Sets count visits)) x (listPuts L) before after) (sym r) (record { answers = refl; holds = e })
 
   -- written by the walk itself
   pub written : count ≤ length before → (after : List ℕ) → after ≡ sets before 0 (listPuts L) → after ≡ listPuts L ++ drop (length (listPuts L)) before
@@ -97,7 +92,7 @@ module _ (L : Listing ℕ) (allowance : ℕ) (before : List ℕ) (count visits :
 -- ---- as the code goes: a first walk into a list of its own, room, and what comes of its answer
 module _ (tree : Tree ℕ) (allowance : ℕ) (before : List ℕ) {room kept : List ℕ} (o : Listed) (w : Walked tree allowance 0 0 room kept o) where
   abbrev Whole : List ℕ → Listed → Type 0
-  Whole after a = Promised (listSays allowance (length before) (list tree)) (listPuts (list tree)) before after a
+  Whole after a = Lent (listedSays a) (listSays allowance (length before) (list tree)) (listPuts (list tree)) before after
 
   pub own-refused : Refuses o → Whole before o
   own-refused n = walk-refused (list tree) allowance before o (w .says) n
@@ -134,5 +129,5 @@ fault-number (Fx.Threshold p) = refl
 fault-number (Fx.Member p) = refl
 fault-number (Fx.Entries p) = refl
 
-pub faulty : (f : Fault) (k : Check) (r : Reply) (own before : List ℕ) → faultSays f ≡ onCheck k r → Promised (onCheck k r) own before before (Bad f)
-faulty f k r own before e = untouched (onCheck k r) own before (Bad f) e (sym (ap (λ (x : Reply). eqb (x .number) 0) e) ∙ fault-number f)
+pub faulty : (f : Fault) (k : Check) (r : Reply) (own before : List ℕ) → faultSays f ≡ onCheck k r → Lent (listedSays (Bad f)) (onCheck k r) own before before
+faulty f k r own before e = untouched e (sym (ap (λ (x : Reply). eqb (x .number) 0) e) ∙ fault-number f)

@@ -7,9 +7,11 @@ ghost use Prim.Native.Nat.{_≤_};
 ghost use lib.ListN.{length, take, drop};
 ghost use Rattle.meanings.specs.Faults.{check};
 ghost use Rattle.meanings.specs.Trees.{list};
+ghost use Rattle.meanings.specs.Replies.{Lent};
 ghost use Rattle.meanings.specs.Questions.{onCheck, listSays, listPuts};
+ghost use Rattle.answers.specs.Said.{listedSays};
 ghost use Rattle.visits.specs.Visits.{Ground};
-ghost use Rattle.lists.specs.Lists.{Promised, ListsMinimal, ListsBlocking, treeOf};
+ghost use Rattle.lists.specs.Lists.{ListsMinimal, ListsBlocking, treeOf};
 use answers::Checked;
 use answers::Listed;
 use visits::Sought;
@@ -30,7 +32,7 @@ fn copy(from: &[u64], to: &mut [u64], count: usize)
 // Walks a whole tree; 9 and 13 come from the walk, 10 after it, and only then is the lent list written.
 fn fill(t: &[u64], plan: &[u64], s: Search, lent: &mut [u64]) -> Listed
     requires { ⌜ Ground (now t) (now plan) (s .all) ⌝ }
-    ensures { λ o. ⌜ Promised (listSays (s .allowance) (length (now (lent .entry))) (list (treeOf (now (t .entry)) (s .sought)))) (listPuts (list (treeOf (now (t .entry)) (s .sought)))) (now (lent .entry)) (now (lent .exit)) o ⌝ }
+    ensures { λ o. ⌜ Lent (listedSays o) (listSays (s .allowance) (length (now (lent .entry))) (list (treeOf (now (t .entry)) (s .sought)))) (listPuts (list (treeOf (now (t .entry)) (s .sought)))) (now (lent .entry)) (now (lent .exit)) ⌝ }
 {
     let sought = s.sought;
     let root = visits::root(t, plan, sought, s.all);
@@ -51,7 +53,7 @@ fn fill(t: &[u64], plan: &[u64], s: Search, lent: &mut [u64]) -> Listed
 
 // Numbers 1 to 7 come first; the plan of a sound table is found once for the whole search.
 fn answer(table: &[u64], sought: Sought, allowance: u64, lent: &mut [u64]) -> Listed
-    ensures { λ o. ⌜ Promised (onCheck (check (now (table .entry))) (listSays allowance (length (now (lent .entry))) (list (treeOf (now (table .entry)) sought)))) (listPuts (list (treeOf (now (table .entry)) sought))) (now (lent .entry)) (now (lent .exit)) o ⌝ }
+    ensures { λ o. ⌜ Lent (listedSays o) (onCheck (check (now (table .entry))) (listSays allowance (length (now (lent .entry))) (list (treeOf (now (table .entry)) sought)))) (listPuts (list (treeOf (now (table .entry)) sought))) (now (lent .entry)) (now (lent .exit)) ⌝ }
 {
     let checked = faults::check_table(table);
     let Checked::Sound { nodes, records: _ } = checked else {

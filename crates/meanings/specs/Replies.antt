@@ -1,4 +1,5 @@
 -- Document 01, 'Numbers given back': what an operation answers, and what it leaves in a lent buffer.
+use mathlib.Core.Path.{_≡_, sym, _∙_}
 use mathlib.Core.Bool.{true, false}
 use mathlib.Core.List.{List, [], _∷_, _++_}
 use Prim.Native.Nat.{ℕ}
@@ -50,3 +51,17 @@ value r f = valueIn (r .names) f
 -- Every number above 0 leaves lent buffers untouched; an answer writes only its own words or bytes at the front.
 abbrev pub leaves : ℕ → List ℕ → List ℕ → List ℕ
 leaves number own before = elim (eqb number 0) [ true ↦ own ++ drop (length own) before | false ↦ before ]
+
+-- What an operation comes to that is lent a buffer, which held `before` and then holds `after`: it says what is told, and the buffer is left
+-- as the number asks, with the answer's own words or bytes in it or not.
+pub record Lent (said told : Reply) (own before after : List ℕ) : Type 0 where
+  pub answers : said ≡ told
+  pub holds : after ≡ leaves (told .number) own before
+
+-- Two results that both fit are equal.
+pub lent-exact : {told x y : Reply} {own before a b : List ℕ} → Lent x told own before a → Lent y told own before b → (x ≡ y) × (a ≡ b)
+lent-exact p q = (p .answers ∙ sym (q .answers), p .holds ∙ sym (q .holds))
+
+-- A number above 0 leaves the buffer as it was.
+pub untouched : {said told : Reply} {own before : List ℕ} → said ≡ told → eqb (told .number) 0 ≡ false → Lent said told own before before
+untouched e z = record { answers = e; holds = rw (leaves, z) }

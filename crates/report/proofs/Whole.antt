@@ -26,7 +26,7 @@ use Rattle.report.proofs.Parts.{fault-some}
 -- ---- a sheet that is read: the table is its words, which have room there
 module _ (s before after : List ℕ) (r : Read) (p : ReadPromise s before after r) (room : length before ≡ mostWords) where
   reads : readSays r ≡ readReply s mostWords
-  reads = rw room at (p .says)
+  reads = rw room at (p .answers)
 
   module _ (count : ℕ) (e : r ≡ Rx.Words count) where
     counting : readReply s mostWords ≡ reply 0 (Count is count ∷ [])

@@ -12,7 +12,7 @@ use lib.ListN.{length, take, length-take}
 use Rattle.decimal.specs.Bytes.{atFront}
 use Rattle.meanings.specs.Table.{nodes, records}
 use Rattle.meanings.specs.Faults.{Check, sound, fault, check}
-use Rattle.meanings.specs.Replies.{Reply, Named, reply, _is_, rank, Place, Count, leaves}
+use Rattle.meanings.specs.Replies.{Reply, Named, reply, _is_, rank, Place, Count, Lent, untouched}
 use Rattle.meanings.specs.Questions.{onCheck, checkReply}
 use Rattle.answers.specs.declared.Fault.{Fault}
 use Rattle.answers.specs.declared.Checked.{Checked}
@@ -23,26 +23,24 @@ use Rattle.answers.specs.Said.{faultSays, checkedSays, readSays}
 use Rattle.faults.specs.Walk.{counted}
 use Rattle.faults.proofs.Laws.{counted-back, handed-on}
 use Rattle.sheets.specs.Sheets.{Taken, words, stops, onTaken, sheetLines, roomReply, readReply, readPuts}
-use Rattle.sheets.specs.Promises.{Filled, ReadPromise, Put, Takes}
+use Rattle.sheets.specs.Promises.{ReadPromise, Put, Takes}
 use Rattle.sheets.proofs.Numbers.{check-above, sheet-above}
 
 module _ (own before : List ℕ) where
-  pub refused : (answer said : Reply) → said ≡ answer → 0 < answer .number → Filled answer own before before said
-  refused answer said e h =
-      let n : answer .number ≡ 0 → ⊥ = λ z. omega arith in
-      record { says = e; holds = rw (ne-eqb (answer .number) 0 n, leaves) refl }
+  pub refused : (told said : Reply) → said ≡ told → 0 < told .number → Lent said told own before before
+  refused told said e h = let n : told .number ≡ 0 → ⊥ = λ z. omega arith in untouched e (ne-eqb (told .number) 0 n)
 
   pub too-short : length before < length own → Put own before before (reply 10 (Count is length own ∷ []))
-  too-short h = rw (lt-ltb (length before) (length own) h) (record { says = refl; holds = refl })
+  too-short h = rw (lt-ltb (length before) (length own) h) (record { answers = refl; holds = refl })
 
   pub put : (after : List ℕ) → length own ≤ length before → after ≡ atFront own before
       → Put own before after (reply 0 (Count is length own ∷ []))
-  put after h e = rw (le-ltb (length before) (length own) h) (record { says = refl; holds = e })
+  put after h e = rw (le-ltb (length before) (length own) h) (record { answers = refl; holds = e })
 
 -- ---- what checking has found
 module _ (t : List ℕ) where
   by-check : (f : Fault) (c : Check) → check t ≡ c → faultSays f ≡ onCheck c (counted (nodes t) (records t)) → (own before : List ℕ) (x : Reply)
-      → Filled (onCheck c x) own before before (faultSays f)
+      → Lent (faultSays f) (onCheck c x) own before before
   by-check f sound h e own before x =
       let a = handed-on f sound sound (nodes t) (records t) (reply 1 []) e in
       let z : _≡_ {A = ℕ} 0 1 = ap (λ (y : Reply). y .number) (sym e ∙ a) in
@@ -55,7 +53,7 @@ module _ (t : List ℕ) where
     checked-sound n k h = counted-back (check t) n k (nodes t) (records t) (sym (ap checkedSays h) ∙ e) .0
 
     -- a fault is the answer, whatever would have been answered without it
-    pub checked-bad : (f : Fault) → o ≡ Cx.Bad f → (own before : List ℕ) (x : Reply) → Filled (onCheck (check t) x) own before before (faultSays f)
+    pub checked-bad : (f : Fault) → o ≡ Cx.Bad f → (own before : List ℕ) (x : Reply) → Lent (faultSays f) (onCheck (check t) x) own before before
     unfolding checkReply
     checked-bad f h own before x = by-check f (check t) refl (sym (ap checkedSays h) ∙ e) own before x
 
@@ -81,7 +79,7 @@ not-counted r h k e =
 
 module _ (s before : List ℕ) where
   by-lines : (o own : List ℕ) (r : Read) (g : List ℕ → Reply) → ((k : ℕ) → r ≡ Rx.Words k → ⊥) → (x : Taken) → sheetLines s ≡ x → Takes x o r
-      → Filled (onTaken x (λ k p. reply k (Place is p ∷ [])) g) own before before (readSays r)
+      → Lent (readSays r) (onTaken x (λ k p. reply k (Place is p ∷ [])) g) own before before
   by-lines o own r g n (stops k p) e t = refused own before (reply k (Place is p ∷ [])) (readSays r) t (sheet-above s k p e)
   by-lines o own r g n (words w) e t = absurd (n (length w) (t .0))
 
@@ -90,6 +88,6 @@ module _ (s before : List ℕ) where
   read-stops o r e n = by-lines o (readPuts s) r (λ w. onCheck (check w) (roomReply w (length before))) n (sheetLines s) refl e
 
   pub read-goes : (w : List ℕ) → sheetLines s ≡ words w → (after : List ℕ) (said : Reply)
-      → Filled (onCheck (check w) (roomReply w (length before))) w before after said → Filled (readReply s (length before)) (readPuts s) before after said
+      → Lent said (onCheck (check w) (roomReply w (length before))) w before after → Lent said (readReply s (length before)) (readPuts s) before after
   unfolding readReply readPuts
   read-goes w e after said f = rw e f

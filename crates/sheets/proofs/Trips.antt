@@ -8,7 +8,7 @@ use lib.ListN.{length, take, drop}
 use lib.Seq.{take-at}
 use Rattle.decimal.specs.Bytes.{atFront}
 use Rattle.meanings.specs.Faults.{check, sound}
-use Rattle.meanings.specs.Replies.{Reply, reply, _is_, value, Count, leaves}
+use Rattle.meanings.specs.Replies.{Reply, reply, _is_, value, valueIn, Count, leaves, Lent}
 use Rattle.meanings.specs.Questions.{onCheck}
 use Rattle.answers.specs.Said.{readSays, wroteSays}
 use Rattle.answers.specs.declared.Read.{Read}
@@ -16,7 +16,7 @@ use Rattle.answers.specs.declared.Read.the-variants.{Words}
 use Rattle.answers.specs.declared.Wrote.{Wrote}
 use Rattle.answers.specs.declared.Wrote.the-variants.{Bytes}
 use Rattle.answers.proofs.Exact.{read-exact, wrote-exact}
-use Rattle.sheets.specs.Promises.{Filled, ReadPromise, WritePromise}
+use Rattle.sheets.specs.Promises.{ReadPromise, WritePromise}
 use Rattle.sheets.specs.Sheets.{words, sheetLines, sheetText, roomReply, readReply, readPuts, writeReply}
 use Rattle.sheets.proofs.Round.{lines-text, text-lines}
 use Rattle.sheets.proofs.Numbers.{Answered, answered, check-zero}
@@ -55,8 +55,8 @@ written-then-read t e = record { list = rw (text-lines t e); says = λ room h. r
 
 -- ---- the same of the two operations, one after the other
 -- what an answer with the number 0 leaves
-filled-zero : (answer said : Reply) (own before after : List ℕ) → Filled answer own before after said → answer .number ≡ 0 → after ≡ atFront own before
-filled-zero answer said own before after f e = f .holds ∙ ap (λ (k : ℕ). leaves k own before) e
+put-zero : (told said : Reply) (own before after : List ℕ) → Lent said told own before after → told .number ≡ 0 → after ≡ atFront own before
+put-zero told said own before after f e = f .holds ∙ ap (λ (k : ℕ). leaves k own before) e
 
 count-of : (n m : ℕ) → reply 0 (Count is n ∷ []) ≡ reply 0 (Count is m ∷ []) → n ≡ m
 count-of n m e = ap (λ (y : Reply). value y Count) e
@@ -73,30 +73,30 @@ answer-is s room a = rw (a .lines) (putting (readPuts s) (readPuts s) room (a .r
 words-put : (s before after : List ℕ) (n : ℕ) → ReadPromise s before after (Words n) → readReply s (length before) .number ≡ 0 → take n after ≡ readPuts s
 words-put s before after n f z =
     let a = answered s (length before) z in
-    found (readPuts s) before after n (filled-zero (readReply s (length before)) (readSays (Words n)) (readPuts s) before after f z)
-    (count-of n (length (readPuts s)) (f .says ∙ answer-is s (length before) a))
+    found (readPuts s) before after n (put-zero (readReply s (length before)) (readSays (Words n)) (readPuts s) before after f z)
+    (count-of n (length (readPuts s)) (f .answers ∙ answer-is s (length before) a))
 
 -- a sheet that was read is written again from the words read
 pub read-write : (s before after : List ℕ) (n : ℕ) → ReadPromise s before after (Words n) → (d o : List ℕ) (w : Wrote) → length s ≤ length d
     → WritePromise (take n after) d o w → (w ≡ Bytes (length s)) × (o ≡ atFront s d)
 read-write s before after n f d o w h g =
-    let z : readReply s (length before) .number ≡ 0 = ap (λ (y : Reply). y .number) (sym (f .says)) in
+    let z : readReply s (length before) .number ≡ 0 = ap (λ (y : Reply). y .number) (sym (f .answers)) in
     let t = read-then-written s (length before) z in
     let k : WritePromise (readPuts s) d o w = rw (words-put s before after n f z) at g in
     let a : writeReply (readPuts s) (length d) ≡ reply 0 (Count is length s ∷ []) = t .says (length d) h in
-    let b = filled-zero (writeReply (readPuts s) (length d)) (wroteSays w) (sheetText (readPuts s)) d o k (ap (λ (y : Reply). y .number) a) in
-    (wrote-exact w (Bytes (length s)) (k .says ∙ a), b ∙ ap (λ (x : List ℕ). atFront x d) (t .bytes))
+    let b = put-zero (writeReply (readPuts s) (length d)) (wroteSays w) (sheetText (readPuts s)) d o k (ap (λ (y : Reply). y .number) a) in
+    (wrote-exact w (Bytes (length s)) (k .answers ∙ a), b ∙ ap (λ (x : List ℕ). atFront x d) (t .bytes))
 
 -- the bytes that a writer has put are the text of a sound table
 bytes-put : (t before after : List ℕ) (n : ℕ) → WritePromise t before after (Bytes n) → (check t ≡ sound) × (take n after ≡ sheetText t)
 unfolding writeReply
 bytes-put t before after n f =
-    let z : writeReply t (length before) .number ≡ 0 = ap (λ (y : Reply). y .number) (sym (f .says)) in
+    let z : writeReply t (length before) .number ≡ 0 = ap (λ (y : Reply). y .number) (sym (f .answers)) in
     let c = check-zero (sheetText t) (length before) t z in
     let a = putting t (sheetText t) (length before) (c .0) (c .1) in (
       c .0,
-      found (sheetText t) before after n (filled-zero (writeReply t (length before)) (wroteSays (Bytes n)) (sheetText t) before after f z)
-          (count-of n (length (sheetText t)) (f .says ∙ a)),
+      found (sheetText t) before after n (put-zero (writeReply t (length before)) (wroteSays (Bytes n)) (sheetText t) before after f z)
+          (count-of n (length (sheetText t)) (f .answers ∙ a)),
     )
 
 -- a table that was written is read again from the bytes written
@@ -107,5 +107,5 @@ write-read t before after n f b a r h g =
     let x = written-then-read t (p .0) in
     let k : ReadPromise (sheetText t) b a r = rw (p .1) at g in
     let e : readReply (sheetText t) (length b) ≡ reply 0 (Count is length t ∷ []) = x .says (length b) h in
-    let y = filled-zero (readReply (sheetText t) (length b)) (readSays r) (readPuts (sheetText t)) b a k (ap (λ (q : Reply). q .number) e) in
-    (read-exact r (Words (length t)) (k .says ∙ e), y ∙ ap (λ (q : List ℕ). atFront q b) (x .list))
+    let y = put-zero (readReply (sheetText t) (length b)) (readSays r) (readPuts (sheetText t)) b a k (ap (λ (q : Reply). q .number) e) in
+    (read-exact r (Words (length t)) (k .answers ∙ e), y ∙ ap (λ (q : List ℕ). atFront q b) (x .list))

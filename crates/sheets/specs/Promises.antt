@@ -3,30 +3,24 @@ use Prim.Native.Nat.{ℕ}
 use mathlib.Core.Path.{_≡_}
 use mathlib.Core.List.{List, [], _∷_}
 use lib.ListN.{length, take}
-use Rattle.meanings.specs.Replies.{Reply, reply, _is_, Place, leaves}
+use Rattle.meanings.specs.Replies.{Reply, reply, _is_, Place, Lent}
 use Rattle.answers.specs.Said.{readSays, wroteSays}
 use Rattle.answers.specs.declared.Read.{Read}
 use Rattle.answers.specs.declared.Read.the-variants.{Words}
 use Rattle.answers.specs.declared.Wrote.{Wrote}
 use Rattle.sheets.specs.Sheets.{Taken, words, stops, sheetText, roomReply, readReply, readPuts, writeReply}
 
--- A lent buffer held `before` and then holds `after`. The answer says what it is to say, and what is its own stands at the front of the
--- buffer if its number is 0; otherwise the buffer is untouched.
-pub record Filled (answer : Reply) (own before after : List ℕ) (said : Reply) : Type 0 where
-  pub says : said ≡ answer
-  pub holds : after ≡ leaves (answer .number) own before
-
 -- a sheet is read into a lent list
 abbrev pub ReadPromise : (sheet before after : List ℕ) → Read → Type 0
-ReadPromise sheet before after r = Filled (readReply sheet (length before)) (readPuts sheet) before after (readSays r)
+ReadPromise sheet before after r = Lent (readSays r) (readReply sheet (length before)) (readPuts sheet) before after
 
 -- a table is written as a sheet into a lent buffer
 abbrev pub WritePromise : (table before after : List ℕ) → Wrote → Type 0
-WritePromise table before after r = Filled (writeReply table (length before)) (sheetText table) before after (wroteSays r)
+WritePromise table before after r = Lent (wroteSays r) (writeReply table (length before)) (sheetText table) before after
 
 -- what is to be put is put where there is room
 abbrev pub Put : (own before after : List ℕ) → Reply → Type 0
-Put own before after said = Filled (roomReply own (length before)) own before after said
+Put own before after said = Lent said (roomReply own (length before)) own before after
 
 -- taking the lines of a sheet tells the first fault, or counts the words, which then stand at the front
 abbrev pub Takes : Taken → (after : List ℕ) → Read → Type 0

@@ -17,7 +17,7 @@ same-length c = search needs
 returns : tie.Need-returns
 returns c =
     let e = c .before .before .before .read-sheet .ensures in
-    record { shows = subst (Shows (c .of-read .result)) (e .says) (c .of-read .ensures); holds = e .holds }
+    record { shows = subst (Shows (c .of-read .result)) (e .answers) (c .of-read .ensures); holds = e .holds }
 
 pub breezedrum-read-sheet-spec : {M : Type 1} → statement M
 breezedrum-read-sheet-spec =

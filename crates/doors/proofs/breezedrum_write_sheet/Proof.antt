@@ -17,7 +17,7 @@ same-length c = search needs
 returns : tie.Need-returns
 returns c =
     let e = c .before .before .before .write-sheet .ensures in
-    record { shows = subst (Shows (c .of-wrote .result)) (e .says) (c .of-wrote .ensures); holds = e .holds }
+    record { shows = subst (Shows (c .of-wrote .result)) (e .answers) (c .of-wrote .ensures); holds = e .holds }
 
 pub breezedrum-write-sheet-spec : {M : Type 1} → statement M
 breezedrum-write-sheet-spec =

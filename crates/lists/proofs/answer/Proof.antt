@@ -7,10 +7,12 @@ use Rattle.sets.specs.Sets.{everyone}
 use Rattle.meanings.specs.Table.{nodes, records}
 use Rattle.meanings.specs.Faults.{Check, check, sound}
 use Rattle.meanings.specs.Trees.{list}
+use Rattle.meanings.specs.Replies.{Lent}
 use Rattle.meanings.specs.Questions.{onCheck, listSays, listPuts}
 use Rattle.tables.proofs.Sound.{sound-table}
 use Rattle.faults.proofs.Known.{sound-known, fault-known}
-use Rattle.lists.specs.Lists.{Promised, treeOf}
+use Rattle.answers.specs.Said.{listedSays}
+use Rattle.lists.specs.Lists.{treeOf}
 use Rattle.lists.proofs.Promise.{faulty}
 use borrow.Author.Needs.{needs}
 use Rattle.lists.proofs.answer.Statement.{statement}
@@ -76,7 +78,7 @@ returns-2 c =
     let p = passed (f .before .before .before .before .before .before .before) in
     let t = s .args .table .now in
     let before = s .args .lent .now in
-    subst (λ (x : Check). Promised (onCheck x (listSays (s .args .allowance) (length before) (list (treeOf t (s .args .sought))))) (listPuts (list (treeOf t (s .args .sought)))) before (f .fill .last .1 .1 .1 .0) (f .fill .result))
+    subst (λ (x : Check). Lent (listedSays (f .fill .result)) (onCheck x (listSays (s .args .allowance) (length before) (list (treeOf t (s .args .sought))))) (listPuts (list (treeOf t (s .args .sought)))) before (f .fill .last .1 .1 .1 .0))
     (sym (p .0)) (f .fill .ensures)
 
 pub answer-spec : {M : Type 1} → statement M

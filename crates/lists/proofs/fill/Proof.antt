@@ -7,12 +7,14 @@ use lib.ListN.{length}
 use Rattle.sets.specs.Sets.{nobody, everyone}
 use Rattle.meanings.specs.Table.{nodes, satisfied}
 use Rattle.meanings.specs.Trees.{Tree, list}
+use Rattle.meanings.specs.Replies.{Lent}
 use Rattle.meanings.specs.Questions.{listSays, listPuts}
 use Rattle.visits.specs.declared.Sought.{Sought}
 use Rattle.visits.specs.Visits.{treeAt}
 use Rattle.answers.specs.declared.Listed.{Listed}
 use Rattle.answers.specs.declared.Listed.the-variants.{Sets, Short}
-use Rattle.lists.specs.Lists.{Promised, treeOf}
+use Rattle.answers.specs.Said.{listedSays}
+use Rattle.lists.specs.Lists.{treeOf}
 use Rattle.walks.proofs.Laws.{refused}
 use Rattle.lists.proofs.Promise.{own-refused, own-short, own-copied, lent-walked}
 use borrow.Author.Needs.{needs}
@@ -21,10 +23,10 @@ use Rattle.lists.proofs.fill.Tie as tie
 
 -- the tree below the root is the whole tree
 whole-tree : (t : List ℕ) (sought : Sought) (c r allowance : ℕ) (before after : List ℕ) (o : Listed) → c ≡ nobody → r ≡ everyone (nodes t)
-    → Promised (listSays allowance (length before) (list (treeAt (nodes t) (satisfied t) sought c r))) (listPuts (list (treeAt (nodes t) (satisfied t) sought c r))) before after o
-    → Promised (listSays allowance (length before) (list (treeOf t sought))) (listPuts (list (treeOf t sought))) before after o
+    → Lent (listedSays o) (listSays allowance (length before) (list (treeAt (nodes t) (satisfied t) sought c r))) (listPuts (list (treeAt (nodes t) (satisfied t) sought c r))) before after
+    → Lent (listedSays o) (listSays allowance (length before) (list (treeOf t sought))) (listPuts (list (treeOf t sought))) before after
 whole-tree t sought c r allowance before after o e f p =
-    subst (λ (x : Tree ℕ). Promised (listSays allowance (length before) (list x)) (listPuts (list x)) before after o)
+    subst (λ (x : Tree ℕ). Lent (listedSays o) (listSays allowance (length before) (list x)) (listPuts (list x)) before after)
     (ap₂ (λ (x y : ℕ). treeAt (nodes t) (satisfied t) sought x y) e f) p
 
 -- no node chosen, all open

@@ -5,7 +5,8 @@ use mathlib.Core.Path.{subst}
 use mathlib.Core.List.{List}
 use Prim.Native.Nat.{ℕ}
 use lib.ListN.{length}
-use Rattle.lists.specs.Lists.{Promised}
+use Rattle.meanings.specs.Replies.{Lent}
+use Rattle.answers.specs.Said.{listedSays}
 use Rattle.lists.proofs.Means.{minimal-put}
 use borrow.Author.Needs.{needs}
 use Rattle.lists.proofs.minimal_quorums.Statement.{statement}
@@ -23,7 +24,7 @@ returns c =
     let A = c .before .before in
     let s = A .before .before .before .before in
     subst
-    (λ (l : List ℕ). Promised (minimalReply (s .args .table .now) (s .args .allowance) (length (s .args .sets .now))) l (s .args .sets .now) (A .answer .last .1 .1 .1 .0) (A .answer .result))
+    (λ (l : List ℕ). Lent (listedSays (A .answer .result)) (minimalReply (s .args .table .now) (s .args .allowance) (length (s .args .sets .now))) l (s .args .sets .now) (A .answer .last .1 .1 .1 .0))
     (minimal-put (s .args .table .now))
     (A .answer .ensures)
 
