@@ -84,7 +84,7 @@ module _ (t before after : List ℕ) (l : Listed) (r : Reply) (sets : length bef
       let a = minimal-all t allowance before after count visits (subst (ListsMinimal t allowance before after) e p) in
       (a .counted, omega (arith, a .fits)))
       (rw sets at (p .answers))
-      (rw sets at (p .lent))
+      (rw sets at (p .holds))
 
   pub blocking-part : ListsBlocking t allowance before after l → Part word.blocking word.b (blockingPart t) r after
   unfolding blockingPart
@@ -94,7 +94,7 @@ module _ (t before after : List ℕ) (l : Listed) (r : Reply) (sets : length bef
       let a = blocking-all t allowance before after count visits (subst (ListsBlocking t allowance before after) e p) in
       (a .counted, omega (arith, a .fits)))
       (rw sets at (p .answers))
-      (rw sets at (p .lent))
+      (rw sets at (p .holds))
 
 -- ---- the report on a table: the lines of the four answers, with the sets behind each list's line
 pub whole : (t : List ℕ) (c v m b : Reply) (quorums blocks : List ℕ) (k j : ℕ) → k ≡ following m → j ≡ following b → Shows c (checkReply t)

@@ -9,7 +9,7 @@ use borrow.Author.Tests.{eq-eqb, le-ltb}
 use lib.Dec.{eqb}
 use lib.ListN.{length, take, drop}
 use lib.Seq.{take-at}
-use Rattle.meanings.specs.Replies.{Reply, reply, value, _is_, Count}
+use Rattle.meanings.specs.Replies.{Reply, reply, value, _is_, Count, lent-exact}
 use Rattle.answers.specs.declared.Read.{Read}
 use Rattle.answers.specs.declared.Read.the-variants as Rx
 use Rattle.answers.specs.declared.Wrote.{Wrote}
@@ -79,4 +79,4 @@ first-bytes-decide s = let f = first-bytes s in rw (f .says mostWords, f .puts)
 
 -- two results that both fit are equal
 pub report-exact : (sheet before a b : List ℕ) (x y : Wrote) → ReportPromise sheet before a x → ReportPromise sheet before b y → (x ≡ y) × (a ≡ b)
-report-exact sheet before a b x y p q = (wrote-exact x y (p .says ∙ sym (q .says)), p .holds ∙ sym (q .holds))
+report-exact sheet before a b x y p q = let e = lent-exact p q in (wrote-exact x y (e .0), e .1)

@@ -8,7 +8,7 @@ use lib.ListN.{length, take, drop}
 use lib.Seq.{take-at}
 use Rattle.decimal.specs.Bytes.{atFront}
 use Rattle.meanings.specs.Faults.{check, sound}
-use Rattle.meanings.specs.Replies.{Reply, reply, _is_, value, valueIn, Count, leaves, Lent}
+use Rattle.meanings.specs.Replies.{Reply, reply, _is_, value, Count, leaves, Lent}
 use Rattle.meanings.specs.Questions.{onCheck}
 use Rattle.answers.specs.Said.{readSays, wroteSays}
 use Rattle.answers.specs.declared.Read.{Read}
