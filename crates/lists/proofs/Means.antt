@@ -16,7 +16,7 @@ use Rattle.meanings.specs.Faults.{Check, sound, fault, check}
 use Rattle.meanings.specs.Quorums.{minimalQuorums, minimalBlockingSets}
 use Rattle.meanings.specs.Trees.{Listing, listed, broken, list, minimalTree, blockingTree}
 use Rattle.meanings.specs.Replies.{Reply, reply, _is_, Count, Visits, leaves, value, Lent, lent-exact}
-use Rattle.meanings.specs.Questions.{onCheck, listSays, listPuts, minimalReply, blockingReply}
+use Rattle.meanings.specs.Questions.{onCheck, inRoom, listSays, listPuts, minimalReply, blockingReply}
 use Rattle.theory.proofs.Walks.{visits}
 use Rattle.theory.proofs.Minimal.{minimal-listed, minimal-visits}
 use Rattle.theory.proofs.Blocking.{blocking-listed, blocking-visits}
