@@ -1,7 +1,7 @@
 -- A plan of the nodes so far takes in one more. Its record is judged for all that are alike; and a node that is not touched names none
 -- of them in its quorum set, so that it loses nobody named when they are struck.
 use mathlib.Core.Path.{_≡_, sym, ap, _∙_, subst}
-use mathlib.Core.Bool.{true, false}
+use mathlib.Core.Bool.{false}
 use mathlib.Core.Logic.{⊎-elim}
 use mathlib.Core.List.{List}
 use Prim.Native.Nat.{ℕ, suc, _+_, _*_, _<_, _≤_}

@@ -1,8 +1,7 @@
 -- The loop keeps the node itself and those passed whose sets comparing calls the same, which makes them alike.
-use mathlib.Core.Path.{_≡_, sym, _∙_, subst}
-use mathlib.Core.Bool.{true}
+use mathlib.Core.Path.{sym, subst}
 use mathlib.Core.Logic.{⊎-elim}
-use Prim.Native.Nat.{ℕ, _-_, _<_, _≤_}
+use Prim.Native.Nat.{_-_, _<_, _≤_}
 use native.Mathlib.Omega.{arith}
 use Rattle.meanings.specs.Table.{nodes as nodesOf, headOf}
 use Rattle.tables.proofs.Heads.{head-in}

@@ -2,10 +2,10 @@
 use mathlib.Core.Path.{_≡_, sym, _∙_}
 use mathlib.Core.Bool.{true}
 use mathlib.Core.Logic.{⊎-elim}
-use Prim.Native.Nat.{ℕ, _+_, _-_, _<_, _≤_}
+use Prim.Native.Nat.{ℕ, _-_, _<_, _≤_}
 use native.Mathlib.Omega.{arith}
 use borrow.Author.Count.{below-more}
-use Rattle.sets.specs.Sets.{has, each}
+use Rattle.sets.specs.Sets.{each}
 use Rattle.sets.proofs.Bools.{clash, fails, not-holds, not-fails}
 use Rattle.sets.proofs.Members.{In, has-below, each-at, at-each}
 use Rattle.meanings.specs.Table.{nodes as nodesOf, satisfied}

@@ -1,12 +1,12 @@
 -- The outer loop's invariant is that what is left of those present is the answer, and the rounds so far with those still to come the
 -- number; the inner walk gathers, node by node, those who stay. A round that is not the last leaves fewer, so the rounds end.
-use Prim.Native.Nat.{ℕ, _-_, _<_, _≤_, _^_}
+use Prim.Native.Nat.{ℕ, _-_, _≤_}
 use native.Mathlib.Omega.{arith}
-use mathlib.Core.Path.{_≡_, refl, sym, ap, ap₂, _∙_, subst}
+use mathlib.Core.Path.{_≡_, refl, sym, ap₂, _∙_, subst}
 use mathlib.Core.Logic.{⊎-elim, inl, inr}
 use borrow.Author.Tests.{eqb-true, eqb-false}
 use Rattle.sets.specs.Sets.{_∪_, size, setOf}
-use Rattle.meanings.specs.Table.{nodes as nodesOf, satisfied}
+use Rattle.meanings.specs.Table.{nodes as nodesOf}
 use Rattle.tables.proofs.Sound.{sound-table}
 use Rattle.rounds.proofs.Laws.{stays, one-stays, one-goes, gathered, Standing, none-left, start, last, fewer, again}
 use borrow.Author.Needs.{needs}
