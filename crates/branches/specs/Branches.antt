@@ -4,6 +4,7 @@ use mathlib.Core.Path.{_≡_}
 use mathlib.Core.Bool.{Bool, true, false, not, _||_, cond}
 use mathlib.Core.List.{List}
 use Prim.Native.Nat.{ℕ, _<_, _^_}
+use Rattle.meanings.specs.Of as of
 use Rattle.sets.specs.Sets.{has, nobody, only, _∪_, _∖_, empty, within}
 use Rattle.meanings.specs.Table.{nodes, satisfied}
 use Rattle.meanings.specs.Quorums.{quorum, greatest}
@@ -15,7 +16,7 @@ use Rattle.branches.specs.declared.Met.the-variants.{Dry, Waits, Quorum}
 
 -- the greatest quorum in c and r together
 abbrev pub reach : List ℕ → ℕ → ℕ → ℕ → ℕ
-reach t d c r = greatest (nodes t) (satisfied t) d (c ∪ r)
+reach t d c r = of.greatest t d (c ∪ r)
 
 -- A visit with d counted out: g is the greatest quorum in c and r together where it has all of c, and otherwise nobody. The nodes of c that
 -- are not due are satisfied; where c has not grown since the visit above, it is known to be no quorum.
@@ -24,7 +25,7 @@ pub record Stands (t plan : List ℕ) (d : ℕ) (a : Visit) : Type 0 where
   pub open-in : a .r < 2 ^ nodes t
   pub in-reach : a .g ≡ holding (a .c) (reach t d (a .c) (a .r))
   pub waiting : Waiting t d (a .c) (a .due)
-  pub not-grown : a .grown ≡ false → quorum (nodes t) (satisfied t) d (a .c) ≡ false
+  pub not-grown : a .grown ≡ false → of.quorum t d (a .c) ≡ false
 
 -- Step (2): no quorum is in reach, or it lacks a chosen node. Step (3): c is a quorum, or it is not, and some of its nodes are still due.
 abbrev pub dry : List ℕ → ℕ → ℕ → ℕ → Bool
@@ -32,13 +33,13 @@ dry t d c r = empty (reach t d c r) || not (within c (reach t d c r))
 
 pub record Waiter (t : List ℕ) (d : ℕ) (a : Visit) (due : ℕ) : Type 0 where
   pub not-dry : dry t d (a .c) (a .r) ≡ false
-  pub no-quorum : quorum (nodes t) (satisfied t) d (a .c) ≡ false
+  pub no-quorum : of.quorum t d (a .c) ≡ false
   pub waiting : Waiting t d (a .c) due
 
 abbrev pub MetIs : List ℕ → ℕ → Visit → Met → Type 0
 MetIs t d a Dry = dry t d (a .c) (a .r) ≡ true
 MetIs t d a (Waits due) = Waiter t d a due
-MetIs t d a Quorum = (dry t d (a .c) (a .r) ≡ false) × (quorum (nodes t) (satisfied t) d (a .c) ≡ true)
+MetIs t d a Quorum = (dry t d (a .c) (a .r) ≡ false) × (of.quorum t d (a .c) ≡ true)
 
 -- a split on node v, which is in reach and not chosen
 pub record Ready (t : List ℕ) (d : ℕ) (a : Visit) (v due : ℕ) : Type 0 where
@@ -57,4 +58,4 @@ pub record Below (t plan : List ℕ) (d : ℕ) (a : Visit) (v c : ℕ) (b : Visi
 
 -- the visit that a search starts with: no node chosen, u open
 abbrev pub rootIs : List ℕ → ℕ → ℕ → Visit
-rootIs t d u = record { c = nobody; r = u; g = greatest (nodes t) (satisfied t) d u; due = nobody; grown = true }
+rootIs t d u = record { c = nobody; r = u; g = of.greatest t d u; due = nobody; grown = true }

@@ -1,9 +1,8 @@
 // The doors for technicians: every public operation under a C name. A function takes what the operation takes and no more; an answer is
 // one struct with the number, the place and the fields of document 01's table, 0 where a field is not named.
+ghost use Rattle.meanings.specs.Of as of;
 ghost use Rattle.meanings.specs.Questions.{checkReply, quorumReply, greatestReply, blocksReply, verdictReply, minimalReply, blockingReply, intactReply};
 ghost use lib.ListN.{length};
-ghost use Rattle.meanings.specs.Table.{nodes as nodesOf, satisfied};
-ghost use Rattle.meanings.specs.Quorums.{minimalQuorums, minimalBlockingSets};
 ghost use Rattle.sheets.specs.Sheets.{sheetText, readReply, readPuts, writeReply, roomReply};
 ghost use Rattle.report.specs.Report.{reportOf};
 ghost use Rattle.replies.specs.Shows.{Shows};
@@ -77,7 +76,7 @@ pub extern "C" fn breezedrum_write_sheet(table: &[u64], sheet: &mut [u8]) -> Rep
 // The minimal quorums, in the listing order, into a lent list of words.
 #[no_mangle]
 pub extern "C" fn breezedrum_minimal(table: &[u64], allowance: u64, sets: &mut [u64]) -> Reply
-    ensures { λ r. ⌜ Fills r (minimalReply (now (table .entry)) allowance (length (now (sets .entry)))) (minimalQuorums (nodesOf (now (table .entry))) (satisfied (now (table .entry)))) (now (sets .entry)) (now (sets .exit)) ⌝ }
+    ensures { λ r. ⌜ Fills r (minimalReply (now (table .entry)) allowance (length (now (sets .entry)))) (of.minimalQuorums (now (table .entry))) (now (sets .entry)) (now (sets .exit)) ⌝ }
 {
     replies::of_listed(lists::minimal_quorums(table, allowance, sets))
 }
@@ -85,7 +84,7 @@ pub extern "C" fn breezedrum_minimal(table: &[u64], allowance: u64, sets: &mut [
 // The minimal blocking sets, in the listing order, into a lent list of words.
 #[no_mangle]
 pub extern "C" fn breezedrum_blocking(table: &[u64], allowance: u64, sets: &mut [u64]) -> Reply
-    ensures { λ r. ⌜ Fills r (blockingReply (now (table .entry)) allowance (length (now (sets .entry)))) (minimalBlockingSets (nodesOf (now (table .entry))) (satisfied (now (table .entry)))) (now (sets .entry)) (now (sets .exit)) ⌝ }
+    ensures { λ r. ⌜ Fills r (blockingReply (now (table .entry)) allowance (length (now (sets .entry)))) (of.minimalBlockingSets (now (table .entry))) (now (sets .entry)) (now (sets .exit)) ⌝ }
 {
     replies::of_listed(lists::blocking_sets(table, allowance, sets))
 }

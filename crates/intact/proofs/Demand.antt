@@ -40,10 +40,10 @@ bound t = 3 * 2 ^ suc (nodes t)
 pub few-visits : (t : List ℕ) (ill : ℕ) → liesWithin ill (everyone (nodes t)) ≡ true → suc (allVisits t ill) < bound t
 few-visits t ill h = go (decided (nodes t) (satisfied t) nobody (satisfied-monotone t))
   where
-    plainly : (k : ℕ) → suc k ≤ 2 ^ suc (size (nodes t) (ground (nodes t) (satisfied t) nobody)) → suc k ≤ 2 ^ suc (nodes t)
+    plainly : (k : ℕ) → suc k ≤ 2 ^ suc (size (nodes t) (ground (nodes t) nobody)) → suc k ≤ 2 ^ suc (nodes t)
     plainly k l =
-        let m = size-le (nodes t) (ground (nodes t) (satisfied t) nobody) in
-        let x : suc (size (nodes t) (ground (nodes t) (satisfied t) nobody)) ≤ suc (nodes t) = omega arith in
+        let m = size-le (nodes t) (ground (nodes t) nobody) in
+        let x : suc (size (nodes t) (ground (nodes t) nobody)) ≤ suc (nodes t) = omega arith in
         let w = pow-mono x in
         omega arith
 

@@ -110,8 +110,8 @@ module _ (t : List ℕ) where
   pub counted-out : (all q out : ℕ) → all ≡ everyone n → out ≡ all ∖ q → out ≡ others q
   counted-out all q out a e = e ∙ ap (λ (x : ℕ). x ∖ q) a
 
-  pub ground-is : (all q out : ℕ) → q < 2 ^ n → all ≡ everyone n → out ≡ all ∖ q → q ≡ ground n s out
-  ground-is all q out h a e = sym (ground-others n s q h) ∙ ap (ground n s) (sym (counted-out all q out a e))
+  pub ground-is : (all q out : ℕ) → q < 2 ^ n → all ≡ everyone n → out ≡ all ∖ q → q ≡ ground n out
+  ground-is all q out h a e = sym (ground-others n s q h) ∙ ap (ground n) (sym (counted-out all q out a e))
 
   module _ (u allowance spent q : ℕ) (q-is : q ≡ greatest n s nobody u) (v : Verdict) (says : v ≡ verdictWithin allowance spent (verdict n s (others q))) where
     verdict-is : v ≡ verdictWithin allowance spent (verdict n s (others (greatest n s nobody u)))

@@ -3,11 +3,12 @@
 ghost use mathlib.Core.Path.{_≡_};
 ghost use mathlib.Core.Bool.{true};
 ghost use Prim.Native.Nat.{suc, _<_, _^_};
+ghost use Rattle.meanings.specs.Of as of;
 ghost use Rattle.sets.specs.Sets.{everyone, _∖_, within as withinSet};
 ghost use Rattle.meanings.specs.Table.{nodes as nodesOf, satisfied};
 ghost use Rattle.meanings.specs.Faults.{check, sound};
-ghost use Rattle.meanings.specs.Trees.{walk, verdictTree};
-ghost use Rattle.meanings.specs.Intact.{nextU, roundsFrom, intactSearch};
+ghost use Rattle.meanings.specs.Trees.{walk};
+ghost use Rattle.meanings.specs.Intact.{nextU, roundsFrom};
 ghost use Rattle.plans.specs.Plans.{Planned};
 ghost use Rattle.verdict.specs.Search.{within as verdictWithin};
 ghost use Rattle.intact.specs.Rounds.{Asked, Turned, within, handedOn, onYes, onNo};
@@ -64,7 +65,7 @@ fn divided(found: Verdict) -> Intact
 // Do all quorums intersect, with all but q counted out? Where q is all nodes, this is the plain verdict.
 fn verdict_of(t: &[u64], plan: &[u64], all: u64, q: u64, allowance: u64, spent: u64) -> Verdict
     requires { ⌜ Asked (now t) (now plan) all q ⌝ }
-    ensures { λ o. ⌜ o ≡ verdictWithin allowance spent (walk (verdictTree (nodesOf (now (t .entry))) (satisfied (now (t .entry))) (everyone (nodesOf (now (t .entry))) ∖ q))) ⌝ }
+    ensures { λ o. ⌜ o ≡ verdictWithin allowance spent (walk (of.verdictTree (now (t .entry)) (everyone (nodesOf (now (t .entry))) ∖ q))) ⌝ }
 {
     let out = sets::without(all, q);
     verdict::search_from(t, plan, out, q, allowance, spent)
@@ -131,7 +132,7 @@ fn rounds_from(t: &[u64], plan: &[u64], all: u64, u: u64, allowance: u64, spent:
 // The plain verdict, and where it is yes the rounds, from all nodes outside the ill set on, after its visits.
 fn verdict_then_rounds(t: &[u64], plan: &[u64], all: u64, ill: u64, allowance: u64) -> Intact
     requires { ⌜ Asked (now t) (now plan) all ill ⌝ }
-    ensures { λ o. ⌜ o ≡ within allowance 0 (intactSearch (nodesOf (now (t .entry))) (satisfied (now (t .entry))) ill) ⌝ }
+    ensures { λ o. ⌜ o ≡ within allowance 0 (of.intactSearch (now (t .entry)) ill) ⌝ }
 {
     let plain = verdict_of(t, plan, all, all, allowance, 0);
     let Verdict::Yes { visits } = plain else {
@@ -144,7 +145,7 @@ fn verdict_then_rounds(t: &[u64], plan: &[u64], all: u64, ill: u64, allowance: u
 // The intact nodes of a sound table, for an ill set of its nodes.
 fn intact_of(t: &[u64], nodes: u64, ill: u64, allowance: u64) -> Intact
     requires { ⌜ (check (now t) ≡ sound) × (nodes ≡ nodesOf (now t)) × (withinSet ill (everyone (nodesOf (now t))) ≡ true) ⌝ }
-    ensures { λ o. ⌜ o ≡ within allowance 0 (intactSearch (nodesOf (now (t .entry))) (satisfied (now (t .entry))) ill) ⌝ }
+    ensures { λ o. ⌜ o ≡ within allowance 0 (of.intactSearch (now (t .entry)) ill) ⌝ }
 {
     let mut plan = [0u64; 192];
     plans::plan(t, &mut plan);

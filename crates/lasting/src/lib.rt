@@ -5,6 +5,7 @@ ghost use mathlib.Core.Path.{_≡_};
 ghost use mathlib.Core.Bool.{true};
 ghost use Prim.Native.Nat.{ℕ, _+_, _*_, _<_, _^_};
 ghost use lib.ListN.{length};
+ghost use Rattle.meanings.specs.Of as of;
 ghost use Rattle.sets.specs.Sets.{has, nobody, only, _∪_, _∖_, empty, each};
 ghost use Rattle.meanings.specs.Table.{nodes, satisfied};
 ghost use Rattle.meanings.specs.Quorums.{greatest};
@@ -62,7 +63,7 @@ fn meets(t: &[u64], plan: &[u64], with: u64, v: u64) -> bool
 // The greatest quorum within u with d counted out, where it has all of `must`; otherwise nobody.
 pub fn lasting(t: &[u64], plan: &[u64], d: u64, u: u64, due: u64, must: u64) -> u64
     requires { ⌜ (Planned (now t) (now plan)) × (Due (now t) d u due must) ⌝ }
-    ensures { λ o. ⌜ o ≡ holding must (greatest (nodes (now (t .entry))) (satisfied (now (t .entry))) d u) ⌝ }
+    ensures { λ o. ⌜ o ≡ holding must (of.greatest (now (t .entry)) d u) ⌝ }
 {
     let mut present = u;
     let mut left = due;
@@ -85,7 +86,7 @@ pub fn lasting(t: &[u64], plan: &[u64], d: u64, u: u64, due: u64, must: u64) -> 
 // The same within a quorum g when its node v is struck: only nodes that v touches are due.
 pub fn lasting_without(t: &[u64], plan: &[u64], d: u64, g: u64, v: u64, must: u64) -> u64
     requires { ⌜ (Planned (now t) (now plan)) × (Striking (now t) d g v must) ⌝ }
-    ensures { λ o. ⌜ o ≡ holding must (greatest (nodes (now (t .entry))) (satisfied (now (t .entry))) d (g ∖ only v)) ⌝ }
+    ensures { λ o. ⌜ o ≡ holding must (of.greatest (now (t .entry)) d (g ∖ only v)) ⌝ }
 {
     let u = sets::without(g, sets::one(v));
     lasting(t, plan, d, u, touched(plan, v) & u, must)
@@ -94,7 +95,7 @@ pub fn lasting_without(t: &[u64], plan: &[u64], d: u64, g: u64, v: u64, must: u6
 // The greatest quorum within u, nobody being counted out.
 pub fn plain(t: &[u64], plan: &[u64], u: u64) -> u64
     requires { ⌜ (Planned (now t) (now plan)) × (u < 2 ^ nodes (now t)) ⌝ }
-    ensures { λ o. ⌜ o ≡ greatest (nodes (now (t .entry))) (satisfied (now (t .entry))) nobody u ⌝ }
+    ensures { λ o. ⌜ o ≡ of.greatest (now (t .entry)) nobody u ⌝ }
 {
     lasting(t, plan, 0, u, u, 0)
 }

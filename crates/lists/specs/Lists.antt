@@ -2,9 +2,9 @@
 use mathlib.Core.List.{List}
 use Prim.Native.Nat.{ℕ}
 use lib.ListN.{length}
+use Rattle.meanings.specs.Of as of
 use Rattle.sets.specs.Sets.{nobody, everyone}
 use Rattle.meanings.specs.Table.{nodes, satisfied}
-use Rattle.meanings.specs.Quorums.{minimalQuorums, minimalBlockingSets}
 use Rattle.meanings.specs.Trees.{Tree}
 use Rattle.meanings.specs.Replies.{Lent}
 use Rattle.meanings.specs.Questions.{minimalReply, blockingReply}
@@ -17,11 +17,11 @@ use Rattle.visits.specs.Visits.{treeAt}
 -- set, in the listing order.
 abbrev pub ListsMinimal : List ℕ → ℕ → List ℕ → List ℕ → Listed → Type 0
 ListsMinimal t allowance before after o =
-    Lent (listedSays o) (minimalReply t allowance (length before)) (minimalQuorums (nodes t) (satisfied t)) before after
+    Lent (listedSays o) (minimalReply t allowance (length before)) (of.minimalQuorums t) before after
 
 abbrev pub ListsBlocking : List ℕ → ℕ → List ℕ → List ℕ → Listed → Type 0
 ListsBlocking t allowance before after o =
-    Lent (listedSays o) (blockingReply t allowance (length before)) (minimalBlockingSets (nodes t) (satisfied t)) before after
+    Lent (listedSays o) (blockingReply t allowance (length before)) (of.minimalBlockingSets t) before after
 
 -- the tree from C empty and R = all
 abbrev pub treeOf : List ℕ → Sought → Tree ℕ

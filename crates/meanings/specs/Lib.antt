@@ -4,6 +4,7 @@ pub mod Quorums
 pub mod Rounds
 pub mod Trees
 pub mod Intact
+pub mod Of
 pub mod Replies
 pub mod Questions
 pub mod Rows

@@ -5,13 +5,13 @@ use mathlib.Core.List.{List, [], _∷_}
 use Prim.Native.Nat.{ℕ}
 use lib.Dec.{leb, ltb}
 use lib.ListN.{length}
+use Rattle.meanings.specs.Of as of
 use Rattle.sets.specs.Sets.{everyone, within}
-use Rattle.meanings.specs.Table.{records, nodes, satisfied}
+use Rattle.meanings.specs.Table.{records, nodes}
 use Rattle.meanings.specs.Faults.{Check, sound, fault, check}
-use Rattle.meanings.specs.Quorums.{quorum, greatest, blocks}
-use Rattle.meanings.specs.Rounds.{rounds}
-use Rattle.meanings.specs.Trees.{Pair, Walk, hit, missed, stuck, Listing, listed, broken, walk, list, verdictTree, minimalTree, blockingTree}
-use Rattle.meanings.specs.Intact.{Ended, intactAre, divided, stuckAfter, intactSearch}
+use Rattle.meanings.specs.Quorums.{quorum, greatest}
+use Rattle.meanings.specs.Trees.{Pair, Walk, hit, missed, stuck, Listing, listed, broken, walk, list}
+use Rattle.meanings.specs.Intact.{Ended, intactAre, divided, stuckAfter}
 use Rattle.meanings.specs.Replies.{Reply, reply, _is_, Place, Nodes, Records, Answer, Set, Rounds, First, Second, Count, Visits}
 
 -- numbers 1 to 7 come first
@@ -70,7 +70,7 @@ module _ (t : List ℕ) where
   quorumReply d u =
       onCheck (check t)
       (inNodes (within d (everyone (nodes t)))
-      (inNodes (within u (everyone (nodes t))) (yesOrNo (quorum (nodes t) (satisfied t) d u))))
+      (inNodes (within u (everyone (nodes t))) (yesOrNo (of.quorum t d u))))
 
   -- the greatest quorum within u, with d counted out
   unfoldable pub greatestReply : ℕ → ℕ → Reply
@@ -78,29 +78,29 @@ module _ (t : List ℕ) where
       onCheck (check t)
       (inNodes (within d (everyone (nodes t)))
       (inNodes (within u (everyone (nodes t)))
-      (reply 0 (Set is greatest (nodes t) (satisfied t) d u ∷ Rounds is rounds (nodes t) (satisfied t) d u ∷ []))))
+      (reply 0 (Set is of.greatest t d u ∷ Rounds is of.rounds t d u ∷ []))))
 
   -- does b block node v
   unfoldable pub blocksReply : ℕ → ℕ → Reply
   blocksReply b v =
       onCheck (check t)
-      (inNodes (within b (everyone (nodes t))) (inNodes (ltb v (nodes t)) (yesOrNo (blocks (nodes t) (satisfied t) b v))))
+      (inNodes (within b (everyone (nodes t))) (inNodes (ltb v (nodes t)) (yesOrNo (of.blocks t b v))))
 
   -- do all quorums intersect, with d counted out
   unfoldable pub verdictReply : ℕ → ℕ → Reply
   verdictReply d allowance =
       onCheck (check t)
-      (inNodes (within d (everyone (nodes t))) (verdictSays allowance (walk (verdictTree (nodes t) (satisfied t) d))))
+      (inNodes (within d (everyone (nodes t))) (verdictSays allowance (walk (of.verdictTree t d))))
 
   -- the minimal quorums, and the minimal blocking sets, into a lent list of so many words
   unfoldable pub minimalReply : ℕ → ℕ → Reply
-  minimalReply allowance room = onCheck (check t) (listSays allowance room (list (minimalTree (nodes t) (satisfied t))))
+  minimalReply allowance room = onCheck (check t) (listSays allowance room (list (of.minimalTree t)))
 
   unfoldable pub blockingReply : ℕ → ℕ → Reply
-  blockingReply allowance room = onCheck (check t) (listSays allowance room (list (blockingTree (nodes t) (satisfied t))))
+  blockingReply allowance room = onCheck (check t) (listSays allowance room (list (of.blockingTree t)))
 
   -- the intact nodes for the ill set b
   unfoldable pub intactReply : ℕ → ℕ → Reply
   intactReply b allowance =
       onCheck (check t)
-      (inNodes (within b (everyone (nodes t))) (intactSays allowance (intactSearch (nodes t) (satisfied t) b)))
+      (inNodes (within b (everyone (nodes t))) (intactSays allowance (of.intactSearch t b)))

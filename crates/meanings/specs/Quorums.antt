@@ -8,14 +8,14 @@ use lib.Dec.{eqb}
 use Rattle.sets.specs.Sets.{has, nobody, everyone, _∪_, _∖_, empty, within, smaller, meets, setOf, each}
 use Rattle.sets.specs.Listing.{allSets, someSet, setsThat}
 
-module _ (n : ℕ) (s : ℕ → ℕ → Bool) where
-  -- With d counted out, the ground is all nodes not in d.
-  unfoldable pub ground : ℕ → ℕ
-  ground d = everyone n ∖ d
+-- With d counted out, the ground is all nodes not in d.
+unfoldable pub ground : ℕ → ℕ → ℕ
+ground n d = everyone n ∖ d
 
+module _ (n : ℕ) (s : ℕ → ℕ → Bool) where
   -- u is a quorum when it is not empty, lies within the ground, and u with d added satisfies the set of each node of u.
   unfoldable pub quorum : ℕ → ℕ → Bool
-  quorum d u = not (empty u) && within u (ground d) && each n u (λ v. s (u ∪ d) v)
+  quorum d u = not (empty u) && within u (ground n d) && each n u (λ v. s (u ∪ d) v)
 
   -- The greatest quorum within u is the union of all quorums in u, or empty.
   unfoldable pub greatest : ℕ → ℕ → ℕ

@@ -55,14 +55,14 @@ module _ (n : ℕ) (s : ℕ → ℕ → Bool) where
   -- Verdict, from c empty and r = A: (1) if c has more than half of A's nodes, rounded down, leaf. (3) If c is a quorum: where
   -- A without c holds a quorum, answer "no" with c and the greatest such quorum; otherwise leaf.
   unfoldable pub overHalf : ℕ → ℕ → Bool
-  overHalf d c = ltb (size n (ground n s d) / 2) (size n c)
+  overHalf d c = ltb (size n (ground n d) / 2) (size n c)
 
   unfoldable pub pairAt : ℕ → ℕ → Tree Pair
   pairAt d c =
-      foundIf (holdsQuorum n s d (ground n s d ∖ c)) (record { first = c; second = greatest n s d (ground n s d ∖ c) })
+      foundIf (holdsQuorum n s d (ground n d ∖ c)) (record { first = c; second = greatest n s d (ground n d ∖ c) })
 
   unfoldable pub verdictTree : ℕ → Tree Pair
-  verdictTree d = quorumTree n s d (overHalf d) (pairAt d) (suc n) nobody (ground n s d)
+  verdictTree d = quorumTree n s d (overHalf d) (pairAt d) (suc n) nobody (ground n d)
 
   -- Minimal quorums: the same with d empty, without (1); at (3) c is listed if minimal, and is a leaf.
   unfoldable pub minimalTree : Tree ℕ

@@ -3,6 +3,7 @@
 ghost use mathlib.Core.Path.{_≡_};
 ghost use mathlib.Core.Bool.{true};
 ghost use Prim.Native.Nat.{_<_};
+ghost use Rattle.meanings.specs.Of as of;
 ghost use Rattle.sets.specs.Sets.{within as withinSet, everyone};
 ghost use Rattle.meanings.specs.Table.{nodes as nodesOf, satisfied};
 ghost use Rattle.meanings.specs.Faults.{check, sound};
@@ -28,7 +29,7 @@ fn yes_or_no(yes: bool) -> Judged
 // Whether a set is a quorum, with `out` counted out.
 fn quorum_of(t: &[u64], out: u64, set: u64) -> bool
     requires { ⌜ (check (now t) ≡ sound) × (withinSet set (everyone (nodesOf (now t))) ≡ true) ⌝ }
-    ensures { λ o. ⌜ o ≡ quorum (nodesOf (now (t .entry))) (satisfied (now (t .entry))) out set ⌝ }
+    ensures { λ o. ⌜ o ≡ of.quorum (now (t .entry)) out set ⌝ }
 {
     let mut heads = [0u64; 64];
     let nodes = tables::find_heads(t, &mut heads);
@@ -38,7 +39,7 @@ fn quorum_of(t: &[u64], out: u64, set: u64) -> bool
 // The greatest quorum within a set, with `out` counted out, and its rounds.
 fn greatest_of(t: &[u64], out: u64, set: u64) -> Greatest
     requires { ⌜ (check (now t) ≡ sound) × (withinSet set (everyone (nodesOf (now t))) ≡ true) ⌝ }
-    ensures { λ o. ⌜ o ≡ Gx.Is (greatest (nodesOf (now (t .entry))) (satisfied (now (t .entry))) out set) (rounds (nodesOf (now (t .entry))) (satisfied (now (t .entry))) out set) ⌝ }
+    ensures { λ o. ⌜ o ≡ Gx.Is (of.greatest (now (t .entry)) out set) (of.rounds (now (t .entry)) out set) ⌝ }
 {
     let mut heads = [0u64; 64];
     let nodes = tables::find_heads(t, &mut heads);
@@ -52,7 +53,7 @@ fn greatest_of(t: &[u64], out: u64, set: u64) -> Greatest
 // Whether a set blocks node v: its quorum set is judged on the nodes outside the set.
 fn blocked(t: &[u64], set: u64, v: u64) -> bool
     requires { ⌜ (check (now t) ≡ sound) × (v < nodesOf (now t)) ⌝ }
-    ensures { λ o. ⌜ o ≡ blocks (nodesOf (now (t .entry))) (satisfied (now (t .entry))) set v ⌝ }
+    ensures { λ o. ⌜ o ≡ of.blocks (now (t .entry)) set v ⌝ }
 {
     let mut heads = [0u64; 64];
     let nodes = tables::find_heads(t, &mut heads);

@@ -5,10 +5,10 @@ use mathlib.Core.Bool.{cond}
 use mathlib.Core.List.{List, [], _++_}
 use lib.Dec.{eqb}
 use lib.ListN.{take}
+use Rattle.meanings.specs.Of as of
 use Rattle.sets.specs.Sets.{nobody}
 use Rattle.meanings.specs.Replies.{Reply}
-use Rattle.meanings.specs.Table.{nodes, satisfied}
-use Rattle.meanings.specs.Quorums.{minimalQuorums, minimalBlockingSets}
+use Rattle.meanings.specs.Table.{nodes}
 use Rattle.meanings.specs.Questions.{checkReply, verdictReply, minimalReply, blockingReply}
 use Rattle.answers.specs.Said.{wroteSays}
 use Rattle.answers.specs.declared.Wrote.{Wrote}
@@ -36,10 +36,10 @@ mostWords = 512
 
 -- the minimal quorums and the minimal blocking sets of a table
 unfoldable pub minimalPart : (table : List ℕ) → List ℕ
-minimalPart t = listPart word.minimal word.q (minimalReply t allowance room) (minimalQuorums (nodes t) (satisfied t))
+minimalPart t = listPart word.minimal word.q (minimalReply t allowance room) (of.minimalQuorums t)
 
 unfoldable pub blockingPart : (table : List ℕ) → List ℕ
-blockingPart t = listPart word.blocking word.b (blockingReply t allowance room) (minimalBlockingSets (nodes t) (satisfied t))
+blockingPart t = listPart word.blocking word.b (blockingReply t allowance room) (of.minimalBlockingSets t)
 
 -- what the report on a table starts with: its nodes and records, and the verdict
 unfoldable pub headPart : (table : List ℕ) → List ℕ

@@ -60,7 +60,7 @@ module _ (n : ℕ) (s : ℕ → ℕ → Bool) where
       (either (has q i)))
       (λ i p. others-in (others q) i (has-below n q i h p) (fails (has (others q) i) (λ x. clash (has q i) p (others-out q i x))))
 
-  pub ground-others : (q : ℕ) → q < 2 ^ n → ground n s (others q) ≡ q
+  pub ground-others : (q : ℕ) → q < 2 ^ n → ground n (others q) ≡ q
   unfolding ground
   ground-others q h = others-others q h
 
@@ -325,7 +325,7 @@ module _ (n : ℕ) (s : ℕ → ℕ → Bool) where
           next-size : (x : Pair) → Sound n s (others q) x → size n (nextU n s q x) < f
           next-size x w = let a = next-fewer q hq x w in let c = q-size in omega arith
 
-          ground-size : (k : ℕ) → suc k ≤ 2 ^ suc (size n (ground n s (others q))) → suc k ≤ 2 ^ suc (size n q)
+          ground-size : (k : ℕ) → suc k ≤ 2 ^ suc (size n (ground n (others q))) → suc k ≤ 2 ^ suc (size n q)
           ground-size k l = subst (λ (y : ℕ). suc k ≤ 2 ^ suc (size n y)) (ground-others q hq) l
 
           go : Decided n s (others q) mono

@@ -21,19 +21,20 @@ Monotone s = (a b v : ℕ) → Sub a b → s a v ≡ true → s b v ≡ true
 pub ∪-grows : (a b d : ℕ) → Sub a b → Sub (a ∪ d) (b ∪ d)
 ∪-grows a b d f i p = ⊎-elim (λ q. ∪-left b d i (f i q)) (λ q. ∪-right b d i q) (∪-cases a d i p)
 
-module _ (n : ℕ) (s : ℕ → ℕ → Bool) where
-  pub ground-lt : (d : ℕ) → ground n s d < 2 ^ n
+module _ (n : ℕ) where
+  pub ground-lt : (d : ℕ) → ground n d < 2 ^ n
   unfolding ground
   ground-lt d = ∖-lt n (everyone n) d (everyone-lt n)
 
-  pub ground-in : (d i : ℕ) → i < n → has d i ≡ false → In (ground n s d) i
+  pub ground-in : (d i : ℕ) → i < n → has d i ≡ false → In (ground n d) i
   unfolding ground
   ground-in d i l p = ∖-in (everyone n) d i (has-everyone n i l) p
 
-  pub ground-out : (d i : ℕ) → In (ground n s d) i → (i < n) × (has d i ≡ false)
+  pub ground-out : (d i : ℕ) → In (ground n d) i → (i < n) × (has d i ≡ false)
   unfolding ground
   ground-out d i p = let q = ∖-out (everyone n) d i p in (has-below n (everyone n) i (everyone-lt n) (q .0), q .1)
 
+module _ (n : ℕ) (s : ℕ → ℕ → Bool) where
   -- u is a quorum with d counted out
   pub record Quorum (d u : ℕ) : Type 0 where
     pub some-node : ¬ (u ≡ nobody)
@@ -44,21 +45,21 @@ module _ (n : ℕ) (s : ℕ → ℕ → Bool) where
   pub quorum-is : (d u : ℕ) → quorum n s d u ≡ true → Quorum d u
   unfolding quorum
   quorum-is d u e =
-      let a = and-parts (not (empty u) && within u (ground n s d)) (each n u (λ v. s (u ∪ d) v)) e in
-      let b = and-parts (not (empty u)) (within u (ground n s d)) (a .0) in
+      let a = and-parts (not (empty u) && within u (ground n d)) (each n u (λ v. s (u ∪ d) v)) e in
+      let b = and-parts (not (empty u)) (within u (ground n d)) (a .0) in
       record {
         some-node = eqb-false u 0 (not-holds (empty u) (b .0));
-        below = within-lt n u (ground n s d) (ground-lt d) (b .1);
-        apart = λ i p. ground-out d i (within-sub u (ground n s d) (b .1) i p) .1;
+        below = within-lt n u (ground n d) (ground-lt n d) (b .1);
+        apart = λ i p. ground-out n d i (within-sub u (ground n d) (b .1) i p) .1;
         met = each-at n u (λ v. s (u ∪ d) v) (a .1);
       }
 
   pub is-quorum : (d u : ℕ) → Quorum d u → quorum n s d u ≡ true
   unfolding quorum
   is-quorum d u q =
-      and-both (not (empty u) && within u (ground n s d)) (each n u (λ v. s (u ∪ d) v))
-      (and-both (not (empty u)) (within u (ground n s d)) (ap not (ne-eqb u 0 (q .some-node)))
-      (sub-within n u (ground n s d) (q .below) (λ i p. ground-in d i (has-below n u i (q .below) p) (q .apart i p))))
+      and-both (not (empty u) && within u (ground n d)) (each n u (λ v. s (u ∪ d) v))
+      (and-both (not (empty u)) (within u (ground n d)) (ap not (ne-eqb u 0 (q .some-node)))
+      (sub-within n u (ground n d) (q .below) (λ i p. ground-in n d i (has-below n u i (q .below) p) (q .apart i p))))
       (at-each n u (λ v. s (u ∪ d) v) (q .below) (q .met))
 
   -- some node of a set that is not empty

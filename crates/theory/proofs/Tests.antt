@@ -13,8 +13,8 @@ use Rattle.theory.proofs.Quorum.{quorum-is, ground-in}
 module _ (n : ℕ) (s : ℕ → ℕ → Bool) (d c : ℕ) where
   pub no-nodes : c ≡ nobody → false ≡ quorum n s d c
   unfolding quorum
-  no-nodes e = sym (and-left-fails (not (empty c) && within c (ground n s d)) (each n c (λ v. s (c ∪ d) v))
-      (and-left-fails (not (empty c)) (within c (ground n s d)) (ap not (eq-eqb c 0 e))))
+  no-nodes e = sym (and-left-fails (not (empty c) && within c (ground n d)) (each n c (λ v. s (c ∪ d) v))
+      (and-left-fails (not (empty c)) (within c (ground n d)) (ap not (eq-eqb c 0 e))))
 
   pub counted-out : ¬ (c ∩ d ≡ nobody) → c < 2 ^ n → false ≡ quorum n s d c
   counted-out z h =
@@ -27,5 +27,5 @@ module _ (n : ℕ) (s : ℕ → ℕ → Bool) (d c : ℕ) where
   unfolding quorum
   as-settled z e h =
       sym (ap (λ (b : Bool). b && each n c (λ v. s (c ∪ d) v))
-      (and-both (not (empty c)) (within c (ground n s d)) (ap not (ne-eqb c 0 z))
-      (sub-within n c (ground n s d) h (λ i p. ground-in n s d i (has-below n c i h p) (fails (has d i) (λ x. none-in (c ∩ d) i e (∩-in c d i p x)))))))
+      (and-both (not (empty c)) (within c (ground n d)) (ap not (ne-eqb c 0 z))
+      (sub-within n c (ground n d) h (λ i p. ground-in n d i (has-below n c i h p) (fails (has d i) (λ x. none-in (c ∩ d) i e (∩-in c d i p x)))))))

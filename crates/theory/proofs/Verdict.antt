@@ -41,53 +41,53 @@ module _ (n : ℕ) (s : ℕ → ℕ → Bool) (d : ℕ) where
   tree = quorumTree n s d (overHalf n s d) (pairAt n s d)
 
   -- a part of what has at most half has not more than half
-  not-over : (c p : ℕ) → size n p ≤ size n (ground n s d) / 2 → Sub c p → overHalf n s d c ≡ false
+  not-over : (c p : ℕ) → size n p ≤ size n (ground n d) / 2 → Sub c p → overHalf n s d c ≡ false
   unfolding overHalf
-  not-over c p l f = let w = sub-size n c p f in le-ltb (size n (ground n s d) / 2) (size n c) (omega arith)
+  not-over c p l f = let w = sub-size n c p f in le-ltb (size n (ground n d) / 2) (size n c) (omega arith)
 
   -- what stands in a find: two quorums with no node in common, the second the greatest outside the first
   pub record Sound (x : Pair) : Type 0 where
     pub first-is : Quorum n s d (x .first)
     pub second-is : Quorum n s d (x .second)
     pub apart : x .first ∩ x .second ≡ nobody
-    pub largest : x .second ≡ greatest n s d (ground n s d ∖ x .first)
+    pub largest : x .second ≡ greatest n s d (ground n d ∖ x .first)
 
   module _ (mono : Monotone s) where
     pair-splits : (c : ℕ) → Splits (pairAt n s d c)
     unfolding pairAt
-    pair-splits c = maybe-splits (holdsQuorum n s d (ground n s d ∖ c)) (record { first = c; second = greatest n s d (ground n s d ∖ c) })
+    pair-splits c = maybe-splits (holdsQuorum n s d (ground n d ∖ c)) (record { first = c; second = greatest n s d (ground n d ∖ c) })
 
     pair-visits : (c : ℕ) → visits (pairAt n s d c) ≤ 1
     unfolding pairAt
-    pair-visits c = maybe-visits (holdsQuorum n s d (ground n s d ∖ c)) (record { first = c; second = greatest n s d (ground n s d ∖ c) })
+    pair-visits c = maybe-visits (holdsQuorum n s d (ground n d ∖ c)) (record { first = c; second = greatest n s d (ground n d ∖ c) })
 
     -- at a quorum c, a find is sound; and where another quorum lies outside c, there is one
     pair-sound : (c : ℕ) (x : Pair) → Quorum n s d c → Among x (finds (pairAt n s d c)) → Sound x
     unfolding pairAt
     pair-sound c x q m =
-        let h = greatest n s d (ground n s d ∖ c) in
-        let w = found-maybe (holdsQuorum n s d (ground n s d ∖ c)) (record { first = c; second = h }) x m in
+        let h = greatest n s d (ground n d ∖ c) in
+        let w = found-maybe (holdsQuorum n s d (ground n d ∖ c)) (record { first = c; second = h }) x m in
         subst Sound (sym (w .1))
         (record {
           first-is = q;
-          second-is = greatest-quorum n s mono d (ground n s d ∖ c) (holds-greatest n s d (ground n s d ∖ c) (w .0));
-          apart = apart-none n c h (q .below) (λ i p. fails (has h i) (λ y. clash (has c i) p (∖-out (ground n s d) c i (greatest-sub n s d (ground n s d ∖ c) i y) .1)));
+          second-is = greatest-quorum n s mono d (ground n d ∖ c) (holds-greatest n s d (ground n d ∖ c) (w .0));
+          apart = apart-none n c h (q .below) (λ i p. fails (has h i) (λ y. clash (has c i) p (∖-out (ground n d) c i (greatest-sub n s d (ground n d ∖ c) i y) .1)));
           largest = refl;
         })
 
     pair-found : (c e : ℕ) → Quorum n s d e → ((i : ℕ) → In e i → has c i ≡ false) → (x : Pair) × Among x (finds (pairAt n s d c))
     unfolding pairAt
     pair-found c e q f =
-        let x : Pair = record { first = c; second = greatest n s d (ground n s d ∖ c) } in
-        (x, maybe-found (holdsQuorum n s d (ground n s d ∖ c)) x (greatest-holds n s d (ground n s d ∖ c) there))
+        let x : Pair = record { first = c; second = greatest n s d (ground n d ∖ c) } in
+        (x, maybe-found (holdsQuorum n s d (ground n d ∖ c)) x (greatest-holds n s d (ground n d ∖ c) there))
       where
-        outside : Sub e (ground n s d ∖ c)
-        outside i p = ∖-in (ground n s d) c i (ground-in n s d i (has-below n e i (q .below) p) (q .apart i p)) (f i p)
+        outside : Sub e (ground n d ∖ c)
+        outside i p = ∖-in (ground n d) c i (ground-in n d i (has-below n e i (q .below) p) (q .apart i p)) (f i p)
 
-        there : ¬ (greatest n s d (ground n s d ∖ c) ≡ nobody)
+        there : ¬ (greatest n s d (ground n d ∖ c) ≡ nobody)
         there z =
             let w = a-node n s e (q .below) (q .some-node) in
-            none-in (greatest n s d (ground n s d ∖ c)) (w .0) z (greatest-has n s d (ground n s d ∖ c) e q outside (w .0) (w .1))
+            none-in (greatest n s d (ground n d ∖ c)) (w .0) z (greatest-has n s d (ground n d ∖ c) e q outside (w .0) (w .1))
 
     -- ---- soundness
     pub finds-sound : (f c r : ℕ) (x : Pair) → Among x (finds (tree f c r)) → Sound x
@@ -113,7 +113,7 @@ module _ (n : ℕ) (s : ℕ → ℕ → Bool) (d : ℕ) where
             (cast (fork (tree f c b) (tree f c' b)) (tree-fork n s d (overHalf n s d) (pairAt n s d) f c r e k q z)))
 
     -- ---- completeness: p, with at most half of the ground, and e apart from it
-    module _ (p e : ℕ) (qp : Quorum n s d p) (qe : Quorum n s d e) (half : size n p ≤ size n (ground n s d) / 2) (apart : (i : ℕ) → In e i → has p i ≡ false) where
+    module _ (p e : ℕ) (qp : Quorum n s d p) (qe : Quorum n s d e) (half : size n p ≤ size n (ground n d) / 2) (apart : (i : ℕ) → In e i → has p i ≡ false) where
       pub finds-some : (f c r : ℕ) → c < 2 ^ n → r < 2 ^ n → size n r < f → Sub c p → Sub p (c ∪ r) → (x : Pair) × Among x (finds (tree f c r))
       unfolding finds
       finds-some zero c r hc hr l cp pr = absurd (not-suc-le-zero l)
@@ -179,32 +179,32 @@ module _ (n : ℕ) (s : ℕ → ℕ → Bool) (d : ℕ) where
     -- ---- the verdict
     pub verdict-splits : Splits (verdictTree n s d)
     unfolding verdictTree
-    verdict-splits = tree-splits n s d (overHalf n s d) (pairAt n s d) mono pair-splits (suc n) nobody (ground n s d) (pow-pos n)
+    verdict-splits = tree-splits n s d (overHalf n s d) (pairAt n s d) mono pair-splits (suc n) nobody (ground n d) (pow-pos n)
 
-    pub verdict-visits : suc (visits (verdictTree n s d)) ≤ 2 ^ suc (size n (ground n s d))
+    pub verdict-visits : suc (visits (verdictTree n s d)) ≤ 2 ^ suc (size n (ground n d))
     unfolding verdictTree
-    verdict-visits = tree-visits n s d (overHalf n s d) (pairAt n s d) pair-visits (suc n) nobody (ground n s d) (ground-lt n s d)
+    verdict-visits = tree-visits n s d (overHalf n s d) (pairAt n s d) pair-visits (suc n) nobody (ground n d) (ground-lt n d)
 
     pub verdict-sound : (x : Pair) → Among x (finds (verdictTree n s d)) → Sound x
     unfolding verdictTree
-    verdict-sound x m = finds-sound (suc n) nobody (ground n s d) x m
+    verdict-sound x m = finds-sound (suc n) nobody (ground n d) x m
 
     -- two quorums with no node in common: the tree finds a pair
     pub verdict-complete : (p q : ℕ) → Quorum n s d p → Quorum n s d q → p ∩ q ≡ nobody → (x : Pair) × Among x (finds (verdictTree n s d))
     unfolding verdictTree
     verdict-complete p q a b e =
-        let sum = apart-size n p q (ground n s d) (in-ground p a) (in-ground q b) e in
+        let sum = apart-size n p q (ground n d) (in-ground p a) (in-ground q b) e in
         ⊎-elim
-        (λ (l : size n p ≤ size n (ground n s d) / 2).
-        finds-some p q a b l (λ i x. fails (has p i) (λ y. none-in (p ∩ q) i e (∩-in p q i y x))) (suc n) nobody (ground n s d) (pow-pos n) (ground-lt n s d)
-        (size-fits (ground n s d)) (λ i x. none-in nobody i refl x) (λ i x. ∪-right nobody (ground n s d) i (in-ground p a i x)))
-        (λ (l : size n (ground n s d) / 2 < size n p).
-        finds-some q p b a (omega arith) (λ i x. fails (has q i) (λ y. none-in (p ∩ q) i e (∩-in p q i x y))) (suc n) nobody (ground n s d) (pow-pos n) (ground-lt n s d)
-        (size-fits (ground n s d)) (λ i x. none-in nobody i refl x) (λ i x. ∪-right nobody (ground n s d) i (in-ground q b i x)))
-        (le-or-lt (size n p) (size n (ground n s d) / 2))
+        (λ (l : size n p ≤ size n (ground n d) / 2).
+        finds-some p q a b l (λ i x. fails (has p i) (λ y. none-in (p ∩ q) i e (∩-in p q i y x))) (suc n) nobody (ground n d) (pow-pos n) (ground-lt n d)
+        (size-fits (ground n d)) (λ i x. none-in nobody i refl x) (λ i x. ∪-right nobody (ground n d) i (in-ground p a i x)))
+        (λ (l : size n (ground n d) / 2 < size n p).
+        finds-some q p b a (omega arith) (λ i x. fails (has q i) (λ y. none-in (p ∩ q) i e (∩-in p q i x y))) (suc n) nobody (ground n d) (pow-pos n) (ground-lt n d)
+        (size-fits (ground n d)) (λ i x. none-in nobody i refl x) (λ i x. ∪-right nobody (ground n d) i (in-ground q b i x)))
+        (le-or-lt (size n p) (size n (ground n d) / 2))
       where
-        in-ground : (u : ℕ) → Quorum n s d u → Sub u (ground n s d)
-        in-ground u w i x = ground-in n s d i (has-below n u i (w .below) x) (w .apart i x)
+        in-ground : (u : ℕ) → Quorum n s d u → Sub u (ground n d)
+        in-ground u w i x = ground-in n d i (has-below n u i (w .below) x) (w .apart i x)
 
         size-fits : (u : ℕ) → size n u < suc n
         size-fits u = let w = size-le n u in omega arith
@@ -219,8 +219,8 @@ module _ (n : ℕ) (s : ℕ → ℕ → Bool) (d : ℕ) where
 
     -- Yes exactly when every two quorums share a node; otherwise a pair of quorums with no node in common.
     pub data Decided : Type 0 where
-      all-meet : (k : ℕ) → walk (verdictTree n s d) ≡ missed k → intersecting n s d ≡ true → suc k ≤ 2 ^ suc (size n (ground n s d)) → Decided
-      two-apart : (x : Pair) (k : ℕ) → walk (verdictTree n s d) ≡ hit x k → Sound x → intersecting n s d ≡ false → suc k ≤ 2 ^ suc (size n (ground n s d)) → Decided
+      all-meet : (k : ℕ) → walk (verdictTree n s d) ≡ missed k → intersecting n s d ≡ true → suc k ≤ 2 ^ suc (size n (ground n d)) → Decided
+      two-apart : (x : Pair) (k : ℕ) → walk (verdictTree n s d) ≡ hit x k → Sound x → intersecting n s d ≡ false → suc k ≤ 2 ^ suc (size n (ground n d)) → Decided
 
     pub decided : Decided
     decided = go (walk-stops (verdictTree n s d) verdict-splits)

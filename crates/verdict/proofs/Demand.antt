@@ -33,7 +33,7 @@ visitsOf t d = count (walk (verdictTree (nodes t) (satisfied t) d))
 
 -- 2 ^ (a + 1), where a nodes are not counted out
 abbrev pub bound : List ℕ → ℕ → ℕ
-bound t d = 2 ^ suc (size (nodes t) (ground (nodes t) (satisfied t) d))
+bound t d = 2 ^ suc (size (nodes t) (ground (nodes t) d))
 
 -- a sound table, and a set of its nodes
 abbrev pub Asked : List ℕ → ℕ → Type 0

@@ -29,17 +29,17 @@ module _ (t : List ℕ) (d c r : ℕ) where
   unfolding walk
   over-half e = ap walk (tree-pruned n s d (overHalf n s d) (pairAt n s d) n c r e)
 
-  pub over : (size-c : ℕ) → size-c ≡ size 64 c → c < 2 ^ n → n ≤ 64 → (half : ℕ) → half ≡ size n (ground n s d) / 2 → half < size-c → overHalf n s d c ≡ true
+  pub over : (size-c : ℕ) → size-c ≡ size 64 c → c < 2 ^ n → n ≤ 64 → (half : ℕ) → half ≡ size n (ground n d) / 2 → half < size-c → overHalf n s d c ≡ true
   unfolding overHalf
   over k e h m half f l =
       let w = size-at n c h 64 m in
-      lt-ltb (size n (ground n s d) / 2) (size n c) (omega arith)
+      lt-ltb (size n (ground n d) / 2) (size n c) (omega arith)
 
-  pub not-over : (size-c : ℕ) → size-c ≡ size 64 c → c < 2 ^ n → n ≤ 64 → (half : ℕ) → half ≡ size n (ground n s d) / 2 → size-c ≤ half → overHalf n s d c ≡ false
+  pub not-over : (size-c : ℕ) → size-c ≡ size 64 c → c < 2 ^ n → n ≤ 64 → (half : ℕ) → half ≡ size n (ground n d) / 2 → size-c ≤ half → overHalf n s d c ≡ false
   unfolding overHalf
   not-over k e h m half f l =
       let w = size-at n c h 64 m in
-      le-ltb (size n (ground n s d) / 2) (size n c) (omega arith)
+      le-ltb (size n (ground n d) / 2) (size n c) (omega arith)
 
   module _ (few : overHalf n s d c ≡ false) where
     -- (2)
@@ -49,7 +49,7 @@ module _ (t : List ℕ) (d c r : ℕ) where
 
     module _ (not-dry : dry t d c r ≡ false) where
       -- (3)
-      module _ (q : quorum n s d c ≡ true) (h : ℕ) (eh : h ≡ greatest n s d (ground n s d ∖ c)) where
+      module _ (q : quorum n s d c ≡ true) (h : ℕ) (eh : h ≡ greatest n s d (ground n d ∖ c)) where
         at-quorum : walk (treeOf t d c r) ≡ walk (pairAt n s d c)
         at-quorum = ap walk (tree-quorum n s d (overHalf n s d) (pairAt n s d) n c r few not-dry q)
 
@@ -57,15 +57,15 @@ module _ (t : List ℕ) (d c r : ℕ) where
         unfolding pairAt walk
         alone x =
             at-quorum
-            ∙ ap (λ (b : Bool). walk (foundIf b (record { first = c; second = greatest n s d (ground n s d ∖ c) })))
-            (fails (holdsQuorum n s d (ground n s d ∖ c)) (λ y. holds-greatest n s d (ground n s d ∖ c) y (sym eh ∙ x)))
+            ∙ ap (λ (b : Bool). walk (foundIf b (record { first = c; second = greatest n s d (ground n d ∖ c) })))
+            (fails (holdsQuorum n s d (ground n d ∖ c)) (λ y. holds-greatest n s d (ground n d ∖ c) y (sym eh ∙ x)))
 
         pub apart : ¬ (h ≡ nobody) → walk (treeOf t d c r) ≡ hit (record { first = c; second = h }) 1
         unfolding pairAt walk
         apart x =
             at-quorum
-            ∙ ap (λ (b : Bool). walk (foundIf b (record { first = c; second = greatest n s d (ground n s d ∖ c) })))
-            (greatest-holds n s d (ground n s d ∖ c) (λ y. x (eh ∙ y)))
+            ∙ ap (λ (b : Bool). walk (foundIf b (record { first = c; second = greatest n s d (ground n d ∖ c) })))
+            (greatest-holds n s d (ground n d ∖ c) (λ y. x (eh ∙ y)))
             ∙ ap (λ (y : ℕ). hit (record { first = c; second = y }) 1) (sym eh)
 
       -- (4)

@@ -116,11 +116,11 @@ module _ (t : List ℕ) (d allowance : ℕ) where
           )
 
 -- the walk of the verdict's tree takes no more than 2 ^ (a + 1) - 1 visits, where a nodes are not counted out
-pub visits-few : (t : List ℕ) (d : ℕ) → suc (count (walk (verdictTree (nodes t) (satisfied t) d))) ≤ 2 ^ suc (size (nodes t) (ground (nodes t) (satisfied t) d))
+pub visits-few : (t : List ℕ) (d : ℕ) → suc (count (walk (verdictTree (nodes t) (satisfied t) d))) ≤ 2 ^ suc (size (nodes t) (ground (nodes t) d))
 visits-few t d = go (decided (nodes t) (satisfied t) d (satisfied-monotone t))
   where
     few : Walk Pair → Type 0
-    few w = suc (count w) ≤ 2 ^ suc (size (nodes t) (ground (nodes t) (satisfied t) d))
+    few w = suc (count w) ≤ 2 ^ suc (size (nodes t) (ground (nodes t) d))
 
     go : Decided (nodes t) (satisfied t) d (satisfied-monotone t) → few (walk (verdictTree (nodes t) (satisfied t) d))
     go (all-meet j w i l) = subst few (sym w) l

@@ -3,8 +3,7 @@ use mathlib.Core.Path.{_≡_}
 use mathlib.Core.Bool.{true, false}
 use mathlib.Core.List.{List}
 use Prim.Native.Nat.{ℕ}
-use Rattle.meanings.specs.Table.{nodes, satisfied}
-use Rattle.meanings.specs.Quorums.{intersecting, disjointQuorums}
+use Rattle.meanings.specs.Of as of
 use Rattle.meanings.specs.Questions.{verdictReply}
 use Rattle.answers.specs.Said.{verdictSays}
 use Rattle.answers.specs.declared.Verdict.{Verdict}
@@ -14,7 +13,7 @@ pub record VerdictPromise (t : List ℕ) (d allowance : ℕ) (r : Verdict) : Typ
   -- the number and its values, visits included
   pub told : verdictSays r ≡ verdictReply t d allowance
   -- yes is said only where every two quorums of the rest share a node
-  pub yes-means : (k : ℕ) → r ≡ Yes k → intersecting (nodes t) (satisfied t) d ≡ true
+  pub yes-means : (k : ℕ) → r ≡ Yes k → of.intersecting t d ≡ true
   -- no hands over two quorums of the rest with no node in common
   pub no-means : (p q k : ℕ) → r ≡ No p q k
-      → (disjointQuorums (nodes t) (satisfied t) d p q ≡ true) × (intersecting (nodes t) (satisfied t) d ≡ false)
+      → (of.disjointQuorums t d p q ≡ true) × (of.intersecting t d ≡ false)

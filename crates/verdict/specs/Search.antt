@@ -4,9 +4,9 @@ use mathlib.Core.Bool.{false, cond}
 use mathlib.Core.List.{List}
 use Prim.Native.Nat.{ℕ, suc, _+_, _/_}
 use lib.Dec.{leb}
+use Rattle.meanings.specs.Of as of
 use Rattle.sets.specs.Sets.{size}
 use Rattle.meanings.specs.Table.{nodes, satisfied}
-use Rattle.meanings.specs.Quorums.{ground as groundOf}
 use Rattle.meanings.specs.Trees.{Tree, Pair, Walk, hit, missed, stuck, quorumTree, overHalf, pairAt, walk}
 use Rattle.answers.specs.declared.Verdict.{Verdict}
 use Rattle.answers.specs.declared.Verdict.the-variants.{Yes, No, Spent, Unsplit}
@@ -24,7 +24,7 @@ treeOf t d c r =
 -- what a visit asks of its caller: what it knows from the one above, and the ground and its half
 pub record Visiting (t plan : List ℕ) (q : Question) (a : Visit) : Type 0 where
   pub stands : Stands t plan (q .d) a
-  pub ground-is : q .ground ≡ groundOf (nodes t) (satisfied t) (q .d)
+  pub ground-is : q .ground ≡ of.ground t (q .d)
   pub half-is : q .half ≡ size (nodes t) (q .ground) / 2
 
 -- what a visit comes to: nothing below it, found or not; or it splits, with those nodes of c that are still due

@@ -1,11 +1,11 @@
 // Do all quorums intersect? The search for two quorums with no node in common (document 01, 'The search trees', Verdict), within an
 // allowance of visits.
 ghost use mathlib.Core.Path.{_≡_};
+ghost use Rattle.meanings.specs.Of as of;
 ghost use Rattle.verdict.specs.Search.{Visiting, Looked, within, treeOf};
-ghost use Rattle.meanings.specs.Table.{nodes as nodesOf, satisfied};
+ghost use Rattle.meanings.specs.Table.{nodes as nodesOf};
 ghost use Rattle.meanings.specs.Faults.{check, sound};
-ghost use Rattle.meanings.specs.Quorums.{ground as groundOf};
-ghost use Rattle.meanings.specs.Trees.{verdictTree, walk};
+ghost use Rattle.meanings.specs.Trees.{walk};
 ghost use Rattle.plans.specs.Plans.{Planned};
 ghost use Rattle.verdict.specs.Promise.{VerdictPromise};
 use answers::Checked;
@@ -97,8 +97,8 @@ pub fn search_from(
     allowance: u64,
     spent: u64,
 ) -> Verdict
-    requires { ⌜ (Planned (now t) (now plan)) × (ground ≡ groundOf (nodesOf (now t)) (satisfied (now t)) d) ⌝ }
-    ensures { λ o. ⌜ o ≡ within allowance spent (walk (verdictTree (nodesOf (now (t .entry))) (satisfied (now (t .entry))) d)) ⌝ }
+    requires { ⌜ (Planned (now t) (now plan)) × (ground ≡ of.ground (now t) d) ⌝ }
+    ensures { λ o. ⌜ o ≡ within allowance spent (walk (of.verdictTree (now (t .entry)) d)) ⌝ }
 {
     let half = sets::count(ground) / 2;
     let q = Question {
@@ -114,7 +114,7 @@ pub fn search_from(
 // The whole search on a sound table: from no node chosen and the ground open.
 fn decide(t: &[u64], nodes: u64, out: u64, allowance: u64) -> Verdict
     requires { ⌜ (check (now t) ≡ sound) × (nodes ≡ nodesOf (now t)) ⌝ }
-    ensures { λ o. ⌜ o ≡ within allowance 0 (walk (verdictTree (nodesOf (now (t .entry))) (satisfied (now (t .entry))) out)) ⌝ }
+    ensures { λ o. ⌜ o ≡ within allowance 0 (walk (of.verdictTree (now (t .entry)) out)) ⌝ }
 {
     let mut plan = [0u64; 192];
     plans::plan(t, &mut plan);

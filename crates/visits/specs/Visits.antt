@@ -3,6 +3,7 @@ use mathlib.Core.Path.{_≡_}
 use mathlib.Core.Bool.{Bool, true, false, cond}
 use mathlib.Core.List.{List}
 use Prim.Native.Nat.{ℕ, suc, _<_, _^_}
+use Rattle.meanings.specs.Of as of
 use Rattle.sets.specs.Sets.{has, nobody, everyone, only, _∪_, _∩_, _∖_, empty, within, size, lowest}
 use Rattle.meanings.specs.Table.{nodes, satisfied}
 use Rattle.meanings.specs.Quorums.{quorum, greatest, holdsQuorum, minimalQuorum, blockingSet, minimalBlocking}
@@ -49,10 +50,10 @@ openBelow Blocking a v = a .r ∖ only v
 -- Blocking sets: g is the greatest quorum outside c. Outside c and r there is no quorum where c has grown since the visit above, and
 -- otherwise each quorum there has the nodes that are due.
 pub record KnownBlocking (t : List ℕ) (a : Visit) : Type 0 where
-  pub outside : a .g ≡ greatest (nodes t) (satisfied t) nobody (everyone (nodes t) ∖ a .c)
-  pub has-grown : a .grown ≡ true → holdsQuorum (nodes t) (satisfied t) nobody (everyone (nodes t) ∖ (a .c ∪ a .r)) ≡ false
+  pub outside : a .g ≡ of.greatest t nobody (everyone (nodes t) ∖ a .c)
+  pub has-grown : a .grown ≡ true → of.holdsQuorum t nobody (everyone (nodes t) ∖ (a .c ∪ a .r)) ≡ false
   pub due-in : within (a .due) (everyone (nodes t) ∖ (a .c ∪ a .r)) ≡ true
-  pub due-all : (q : ℕ) → quorum (nodes t) (satisfied t) nobody q ≡ true → within q (everyone (nodes t) ∖ (a .c ∪ a .r)) ≡ true → within (a .due) q ≡ true
+  pub due-all : (q : ℕ) → of.quorum t nobody q ≡ true → within q (everyone (nodes t) ∖ (a .c ∪ a .r)) ≡ true → within (a .due) q ≡ true
 
 abbrev pub Known : List ℕ → List ℕ → Sought → Visit → Type 0
 Known t plan Quorums a = Branches.Stands t plan nobody a
@@ -68,7 +69,7 @@ pub record Stands (t plan : List ℕ) (all : ℕ) (sought : Sought) (a : Visit) 
 
 -- what the visits below a split on node v rest on
 pub record ReadyBlocking (t : List ℕ) (a : Visit) (v : ℕ) : Type 0 where
-  pub none-outside : holdsQuorum (nodes t) (satisfied t) nobody (everyone (nodes t) ∖ (a .c ∪ a .r)) ≡ false
+  pub none-outside : of.holdsQuorum t nobody (everyone (nodes t) ∖ (a .c ∪ a .r)) ≡ false
   pub one-in : has (a .r ∩ a .g) v ≡ true
 
 abbrev pub Ready : List ℕ → Sought → Visit → ℕ → ℕ → Type 0

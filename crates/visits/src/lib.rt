@@ -4,9 +4,9 @@
 // sets g is the greatest quorum outside c, and a node is due that is new outside c and r.
 ghost use mathlib.Core.Path.{_≡_};
 ghost use mathlib.Core.Bool.{true};
+ghost use Rattle.meanings.specs.Of as of;
 ghost use Rattle.sets.specs.Sets.{has, nobody, everyone, only, _∪_, _∖_};
 ghost use Rattle.meanings.specs.Table.{nodes, satisfied};
-ghost use Rattle.meanings.specs.Quorums.{holdsQuorum};
 ghost use Rattle.visits.specs.declared.Sought.the-variants as Sx;
 ghost use Rattle.branches.specs.Branches.{chosenBelow};
 ghost use Rattle.visits.specs.Visits.{Ground, Stands, Ready, ReadyBlocking, Asked, Left, spared, isMinimal, Comes, chosen, Below};
@@ -108,7 +108,7 @@ fn look_quorums(t: &[u64], plan: &[u64], all: u64, a: Visit) -> Step
 // Whether a quorum lies outside c and r, of the tree of blocking sets: then nothing below blocks.
 fn shut(t: &[u64], plan: &[u64], all: u64, a: Visit) -> bool
     requires { ⌜ Stands (now t) (now plan) all Sx.Blocking a ⌝ }
-    ensures { λ o. ⌜ o ≡ holdsQuorum (nodes (now (t .entry))) (satisfied (now (t .entry))) nobody (everyone (nodes (now (t .entry))) ∖ (a .c ∪ a .r)) ⌝ }
+    ensures { λ o. ⌜ o ≡ of.holdsQuorum (now (t .entry)) nobody (everyone (nodes (now (t .entry))) ∖ (a .c ∪ a .r)) ⌝ }
 {
     if a.grown {
         return false;

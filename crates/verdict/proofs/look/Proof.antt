@@ -20,7 +20,7 @@ use Rattle.verdict.proofs.look.Tie as tie
 count-requires : tie.Need-count-requires
 count-requires c κs = search needs
 
-half-is : (s : tie.Start) → s .args .q .half ≡ size (nodes (s .args .t .now)) (groundIs (nodes (s .args .t .now)) (satisfied (s .args .t .now)) (s .args .q .d)) / 2
+half-is : (s : tie.Start) → s .args .q .half ≡ size (nodes (s .args .t .now)) (groundIs (nodes (s .args .t .now)) (s .args .q .d)) / 2
 half-is s = s .pre .half-is ∙ ap (λ (x : ℕ). size (nodes (s .args .t .now)) x / 2) (s .pre .ground-is)
 
 returns : tie.Need-returns
@@ -60,7 +60,7 @@ lasting-requires c κs =
       s .pre .stands .planned,
       ground-due (s .args .t .now) (s .args .q .d) (s .args .q .ground) (c .without .result) (s .pre .ground-is)
           (subst (λ (x : ℕ). x < 2 ^ n) (sym (c .without .ensures))
-          (∖-lt n (s .args .q .ground) (s .args .a .c) (subst (λ (x : ℕ). x < 2 ^ n) (sym (s .pre .ground-is)) (ground-lt n (satisfied (s .args .t .now)) (s .args .q .d)))))
+          (∖-lt n (s .args .q .ground) (s .args .a .c) (subst (λ (x : ℕ). x < 2 ^ n) (sym (s .pre .ground-is)) (ground-lt n (s .args .q .d)))))
           (subst (λ (x : ℕ). Sub x (s .args .q .ground)) (sym (c .without .ensures)) (λ i p. ∖-out (s .args .q .ground) (s .args .a .c) i p .0)),
     )
 
@@ -76,7 +76,7 @@ quorate c =
 -- what lies outside it
 outside : (c : tie.After-lasting) →
     let s = c .before .before .before .before .before .before .before .before .before .before in
-    c .lasting .result ≡ greatest (nodes (s .args .t .now)) (satisfied (s .args .t .now)) (s .args .q .d) (groundIs (nodes (s .args .t .now)) (satisfied (s .args .t .now)) (s .args .q .d) ∖ s .args .a .c)
+    c .lasting .result ≡ greatest (nodes (s .args .t .now)) (satisfied (s .args .t .now)) (s .args .q .d) (groundIs (nodes (s .args .t .now)) (s .args .q .d) ∖ s .args .a .c)
 outside c =
     let s = c .before .before .before .before .before .before .before .before .before .before in
     let T = s .args .t .now in

@@ -2,7 +2,7 @@
 use mathlib.Core.Path.{sym, ap, ap₂, _∙_, subst}
 use Prim.Native.Nat.{ℕ, _/_, _<_, _^_}
 use Rattle.sets.proofs.Size.{size-at}
-use Rattle.meanings.specs.Table.{nodes, satisfied}
+use Rattle.meanings.specs.Table.{nodes}
 use Rattle.meanings.specs.Trees.{verdictTree, walk}
 use Rattle.theory.proofs.Quorum.{ground-lt}
 use Rattle.tables.proofs.Sound.{sound-table}
@@ -19,7 +19,7 @@ count-requires c κs = search needs
 ground-below : (s : tie.Start) → s .args .ground < 2 ^ nodes (s .args .t .now)
 ground-below s =
     let n = nodes (s .args .t .now) in
-    subst (λ (x : ℕ). x < 2 ^ n) (sym (s .pre .1)) (ground-lt n (satisfied (s .args .t .now)) (s .args .d))
+    subst (λ (x : ℕ). x < 2 ^ n) (sym (s .pre .1)) (ground-lt n (s .args .d))
 
 root-requires : tie.Need-root-requires
 root-requires c κs =
