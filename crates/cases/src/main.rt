@@ -121,12 +121,12 @@ fn put_list(r: Reply, list: &[u64; 520]) {
 // A question that writes nothing.
 fn plain(op: u64, table: &[u64], a: u64, b: u64) {
     match op {
-        0 => put_reply(doors::breezedrum_check(table)),
-        3 => put_reply(doors::breezedrum_quorum(table, a, b)),
-        4 => put_reply(doors::breezedrum_greatest(table, a, b)),
-        5 => put_reply(doors::breezedrum_blocks(table, a, b)),
-        6 => put_reply(doors::breezedrum_verdict(table, a, b)),
-        _ => put_reply(doors::breezedrum_intact(table, a, b)),
+        0 => put_reply(interface::breezedrum_check(table)),
+        3 => put_reply(interface::breezedrum_quorum(table, a, b)),
+        4 => put_reply(interface::breezedrum_greatest(table, a, b)),
+        5 => put_reply(interface::breezedrum_blocks(table, a, b)),
+        6 => put_reply(interface::breezedrum_verdict(table, a, b)),
+        _ => put_reply(interface::breezedrum_intact(table, a, b)),
     }
     end_line();
 }
@@ -138,7 +138,7 @@ fn minimal(table: &[u64], allowance: u64, room: usize) {
     }
     let from = 0;
     let mut list = [BLANK_WORD; 520];
-    let r = doors::breezedrum_minimal(table, allowance, &mut list[from..room]);
+    let r = interface::breezedrum_minimal(table, allowance, &mut list[from..room]);
     put_list(r, &list);
 }
 
@@ -149,7 +149,7 @@ fn blocking(table: &[u64], allowance: u64, room: usize) {
     }
     let from = 0;
     let mut list = [BLANK_WORD; 520];
-    let r = doors::breezedrum_blocking(table, allowance, &mut list[from..room]);
+    let r = interface::breezedrum_blocking(table, allowance, &mut list[from..room]);
     put_list(r, &list);
 }
 
@@ -160,7 +160,7 @@ fn read(sheet: &[u8], room: usize) {
     }
     let from = 0;
     let mut list = [BLANK_WORD; 520];
-    let r = doors::breezedrum_read_sheet(sheet, &mut list[from..room]);
+    let r = interface::breezedrum_read_sheet(sheet, &mut list[from..room]);
     put_list(r, &list);
 }
 
@@ -171,7 +171,7 @@ fn write(table: &[u64], room: usize) {
     }
     let from = 0;
     let mut text = [BLANK_BYTE; 4096];
-    let r = doors::breezedrum_write_sheet(table, &mut text[from..room]);
+    let r = interface::breezedrum_write_sheet(table, &mut text[from..room]);
     put_reply(r);
     end_line();
     put_bytes(&text, claimed(r));

@@ -23,7 +23,7 @@ use Rattle.meanings.specs.Questions.{inNodes, intactReply, intactSays as search
 use Rattle.theory.proofs.Verdict.{Decided, all-meet, two-apart, decided}
 use Rattle.theory.proofs.Intact.{search-step}
 use Rattle.theory.proofs.Numbers.{OnlyNine, larger-says, after-check, after-nodes}
-use Rattle.judge.proofs.Monotone.{satisfied-monotone}
+use Rattle.satisfaction.proofs.Monotone.{satisfied-monotone}
 use Rattle.answers.specs.Said.{intactSays}
 use Rattle.answers.specs.declared.Intact.{Intact}
 use Rattle.answers.specs.declared.Intact.the-variants.{Are, Divided, Spent, Unsplit}

@@ -22,7 +22,7 @@ use Rattle.meanings.specs.Questions.{inAllowance, intactReply, intactSays as re
 use Rattle.theory.proofs.Verdict.{sound-disjoint}
 use Rattle.theory.proofs.Intact.{start, rounds-answer, intact-answer, intact-divided}
 use Rattle.theory.proofs.Numbers.{Further, Opened, opened, past-opening, in-allowance, over-allowance}
-use Rattle.judge.proofs.Monotone.{satisfied-monotone}
+use Rattle.satisfaction.proofs.Monotone.{satisfied-monotone}
 use Rattle.answers.specs.Said.{intactSays}
 use Rattle.answers.specs.declared.Intact.{Intact}
 use Rattle.answers.specs.declared.Intact.the-variants.{Are, Divided, Spent, Unsplit}

@@ -20,7 +20,7 @@ use Rattle.theory.proofs.Quorum.{Monotone}
 use Rattle.theory.proofs.Greatest.{greatest-lt, greatest-sub}
 use Rattle.theory.proofs.Verdict.{Sound, Decided, all-meet, two-apart, decided}
 use Rattle.theory.proofs.Intact.{ground-others, rounds-step, search-step, next-lt, next-fewer}
-use Rattle.judge.proofs.Monotone.{satisfied-monotone}
+use Rattle.satisfaction.proofs.Monotone.{satisfied-monotone}
 use Rattle.answers.specs.declared.Verdict.{Verdict}
 use Rattle.answers.specs.declared.Verdict.the-variants as Vx
 use Rattle.verdict.specs.Search.{within as verdictWithin}

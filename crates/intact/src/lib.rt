@@ -77,8 +77,8 @@ fn next(t: &[u64], plan: &[u64], q: u64, first: u64, second: u64) -> u64
     requires { ⌜ (Planned (now t) (now plan)) × (q < 2 ^ nodesOf (now t)) ⌝ }
     ensures { λ o. ⌜ o ≡ nextU (nodesOf (now (t .entry))) (satisfied (now (t .entry))) q (record { first = first; second = second }) ⌝ }
 {
-    let w1 = lasting::plain(t, plan, sets::without(q, first));
-    let w2 = lasting::plain(t, plan, sets::without(q, second));
+    let w1 = greatest::plain(t, plan, sets::without(q, first));
+    let w2 = greatest::plain(t, plan, sets::without(q, second));
     if w1 == 0 {
         return w2;
     }
@@ -93,7 +93,7 @@ fn round(t: &[u64], plan: &[u64], all: u64, left: u64, allowance: u64, spent: u6
     requires { ⌜ Asked (now t) (now plan) all left ⌝ }
     ensures { λ o. ⌜ Turned (now (t .entry)) left allowance spent o ⌝ }
 {
-    let q = lasting::plain(t, plan, left);
+    let q = greatest::plain(t, plan, left);
     let found = verdict_of(t, plan, all, q, allowance, spent);
     let Verdict::No {
         first,

@@ -19,7 +19,7 @@ use Rattle.theory.proofs.Walks.{visits}
 use Rattle.theory.proofs.Minimal.{minimal-listed, minimal-visits}
 use Rattle.theory.proofs.Blocking.{blocking-listed, blocking-visits}
 use Rattle.theory.proofs.Numbers.{Further, table-sound, in-allowance, over-allowance}
-use Rattle.judge.proofs.Monotone.{satisfied-monotone}
+use Rattle.satisfaction.proofs.Monotone.{satisfied-monotone}
 use Rattle.lists.proofs.Means.{more-says}
 
 -- a list of the sets l of a table, from a tree of so many visits; what is replied under an allowance, with room for so many sets

@@ -21,7 +21,7 @@ use Rattle.theory.proofs.Walks.{visits}
 use Rattle.theory.proofs.Minimal.{minimal-listed, minimal-visits}
 use Rattle.theory.proofs.Blocking.{blocking-listed, blocking-visits}
 use Rattle.theory.proofs.Numbers.{OnlyNine, larger-says, after-check}
-use Rattle.judge.proofs.Monotone.{satisfied-monotone}
+use Rattle.satisfaction.proofs.Monotone.{satisfied-monotone}
 use Rattle.answers.specs.declared.Listed.{Listed}
 use Rattle.answers.specs.declared.Listed.the-variants.{Sets, Unsplit}
 use Rattle.answers.specs.Said.{listedSays}

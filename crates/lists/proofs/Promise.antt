@@ -19,8 +19,8 @@ use Rattle.answers.specs.declared.Fault.the-variants as Fx
 use Rattle.answers.specs.declared.Listed.{Listed}
 use Rattle.answers.specs.declared.Listed.the-variants.{Sets, Short, Spent, Unsplit, Bad}
 use Rattle.answers.specs.Said.{faultSays, listedSays}
-use Rattle.walks.specs.Walked.{answered, Walked}
-use Rattle.walks.proofs.Laws.{Refuses, Told, told}
+use Rattle.listing_walk.specs.Walked.{answered, Walked}
+use Rattle.listing_walk.proofs.Laws.{Refuses, Told, told}
 
 module _ (L : Listing ℕ) (allowance : ℕ) (before : List ℕ) where
   abbrev R : Reply

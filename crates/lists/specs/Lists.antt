@@ -10,8 +10,8 @@ use Rattle.meanings.specs.Replies.{Lent}
 use Rattle.meanings.specs.Questions.{minimalReply, blockingReply}
 use Rattle.answers.specs.declared.Listed.{Listed}
 use Rattle.answers.specs.Said.{listedSays}
-use Rattle.visits.specs.declared.Sought.{Sought}
-use Rattle.visits.specs.Visits.{treeAt}
+use Rattle.listing_visits.specs.declared.Sought.{Sought}
+use Rattle.listing_visits.specs.Visits.{treeAt}
 
 -- The two operations, for a table, an allowance and a lent list: what they put there is every minimal quorum, or every minimal blocking
 -- set, in the listing order.

@@ -10,12 +10,12 @@ ghost use Rattle.meanings.specs.Trees.{list};
 ghost use Rattle.meanings.specs.Replies.{Lent};
 ghost use Rattle.meanings.specs.Questions.{onCheck, listSays, listPuts};
 ghost use Rattle.answers.specs.Said.{listedSays};
-ghost use Rattle.visits.specs.Visits.{Ground};
+ghost use Rattle.listing_visits.specs.Visits.{Ground};
 ghost use Rattle.lists.specs.Lists.{ListsMinimal, ListsBlocking, treeOf};
 use answers::Checked;
 use answers::Listed;
-use visits::Sought;
-use walks::Search;
+use listing_visits::Sought;
+use listing_walk::Search;
 
 // Copies the first words of one list to the front of another.
 fn copy(from: &[u64], to: &mut [u64], count: usize)
@@ -35,9 +35,9 @@ fn fill(t: &[u64], plan: &[u64], s: Search, lent: &mut [u64]) -> Listed
     ensures { λ o. ⌜ Lent (listedSays o) (listSays (s .allowance) (length (now (lent .entry))) (list (treeOf (now (t .entry)) (s .sought)))) (listPuts (list (treeOf (now (t .entry)) (s .sought)))) (now (lent .entry)) (now (lent .exit)) ⌝ }
 {
     let sought = s.sought;
-    let root = visits::root(t, plan, sought, s.all);
+    let root = listing_visits::root(t, plan, sought, s.all);
     let mut own = [0u64; 1024];
-    let walked = walks::walk(t, plan, s, root, 0, 0, &mut own);
+    let walked = listing_walk::walk(t, plan, s, root, 0, 0, &mut own);
     let Listed::Sets { count, visits: _ } = walked else {
         return walked;
     };
@@ -45,7 +45,7 @@ fn fill(t: &[u64], plan: &[u64], s: Search, lent: &mut [u64]) -> Listed
         return Listed::Short { count };
     }
     if 1024 < count {
-        return walks::walk(t, plan, s, root, 0, 0, lent);
+        return listing_walk::walk(t, plan, s, root, 0, 0, lent);
     }
     copy(&own, lent, count as usize);
     walked

@@ -18,7 +18,7 @@ use Rattle.sets.proofs.Size.{le-or-lt, sub-size}
 use Rattle.meanings.specs.Table.{records, members, threshold, level, headOf, satisfies}
 use Rattle.meanings.specs.Faults.{check, sound}
 use Rattle.tables.proofs.Runs.{innerFrom, from-stop, from-hit, from-miss, from-deeper}
-use Rattle.judge.proofs.Laws.{judged-last, judged-more}
+use Rattle.satisfaction.proofs.Laws.{judged-last, judged-more}
 use Rattle.plans.specs.Alike.{setEnds}
 use Rattle.plans.proofs.SameSets.{from-last}
 use Rattle.plans.specs.Named.{Names, namesAt, NamedTo}

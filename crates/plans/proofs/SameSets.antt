@@ -16,7 +16,7 @@ use Rattle.sets.proofs.Size.{le-or-lt}
 use Rattle.meanings.specs.Table.{records, control, members, threshold, level, satisfies}
 use Rattle.meanings.specs.Faults.{check, sound}
 use Rattle.tables.proofs.Runs.{innerFrom, from-end, from-stop, from-hit, from-miss, from-deeper}
-use Rattle.judge.proofs.Laws.{judged-last, judged-more}
+use Rattle.satisfaction.proofs.Laws.{judged-last, judged-more}
 use Rattle.plans.specs.Alike.{Alike, sameRecord, setEnds}
 
 -- ---- records written the same

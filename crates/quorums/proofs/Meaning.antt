@@ -26,7 +26,7 @@ use Rattle.answers.specs.Said.{judgedSays, greatestSays}
 use Rattle.theory.proofs.Quorum.{quorum-is, is-quorum}
 use Rattle.theory.proofs.Greatest.{greatest-lt, greatest-sub, greatest-has, greatest-quorum, greatest-unique}
 use Rattle.theory.proofs.Rounds.{rounds-none, rounds-some}
-use Rattle.judge.proofs.Monotone.{satisfied-monotone}
+use Rattle.satisfaction.proofs.Monotone.{satisfied-monotone}
 use Rattle.faults.proofs.Opening.{inside-lt}
 
 not-not : (b : Bool) → not (not b) ≡ b

@@ -15,7 +15,7 @@ use Rattle.meanings.specs.Table.{nodes, satisfied}
 use Rattle.meanings.specs.Quorums.{greatest}
 use Rattle.meanings.specs.Rounds.{round, roundsFrom, leftFrom, rounds, survivors}
 use Rattle.theory.proofs.Rounds.{round-lt, round-less, is-last, is-not-last, left-stops, left-goes-on, rounds-stop, rounds-go-on, survivors-greatest}
-use Rattle.judge.proofs.Monotone.{satisfied-monotone}
+use Rattle.satisfaction.proofs.Monotone.{satisfied-monotone}
 
 -- ---- one round
 

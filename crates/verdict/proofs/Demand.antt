@@ -18,7 +18,7 @@ use Rattle.meanings.specs.Replies.{Reply, reply, _is_, Answer, First, Second, V
 use Rattle.meanings.specs.Questions.{inNodes, inAllowance, verdictReply, verdictSays as searchSays}
 use Rattle.theory.proofs.Verdict.{Decided, all-meet, two-apart, decided, sound-disjoint}
 use Rattle.theory.proofs.Numbers.{Further, Opened, opened, past-opening, in-allowance, over-allowance, OnlyNine, larger-says, after-check, after-nodes}
-use Rattle.judge.proofs.Monotone.{satisfied-monotone}
+use Rattle.satisfaction.proofs.Monotone.{satisfied-monotone}
 use Rattle.answers.specs.Said.{verdictSays}
 use Rattle.answers.specs.declared.Verdict.{Verdict}
 use Rattle.answers.specs.declared.Verdict.the-variants.{Yes, No, Spent, Unsplit}

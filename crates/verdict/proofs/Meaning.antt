@@ -15,7 +15,7 @@ use Rattle.meanings.specs.Quorums.{ground, intersecting, disjointQuorums}
 use Rattle.meanings.specs.Trees.{Pair, Walk, hit, missed, stuck, verdictTree, walk}
 use Rattle.meanings.specs.Questions.{verdictReply, verdictSays as replySays}
 use Rattle.theory.proofs.Verdict.{Decided, all-meet, two-apart, decided, sound-disjoint}
-use Rattle.judge.proofs.Monotone.{satisfied-monotone}
+use Rattle.satisfaction.proofs.Monotone.{satisfied-monotone}
 use Rattle.answers.specs.Said.{verdictSays}
 use Rattle.answers.specs.declared.Fault.{Fault}
 use Rattle.answers.specs.declared.Verdict.{Verdict}

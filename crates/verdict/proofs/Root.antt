@@ -7,8 +7,8 @@ use Rattle.sets.proofs.Members.{In, Sub}
 use Rattle.meanings.specs.Table.{nodes}
 use Rattle.meanings.specs.Quorums.{ground as groundIs}
 use Rattle.theory.proofs.Quorum.{ground-out}
-use Rattle.lasting.specs.Lasting.{Due, Apart}
-use Rattle.lasting.proofs.Below.{all-due, none-within}
+use Rattle.greatest.specs.Greatest.{Due, Apart}
+use Rattle.greatest.proofs.Below.{all-due, none-within}
 
 pub ground-of : (t : List ℕ) (d n all g : ℕ) → n ≡ nodes t → all ≡ everyone n → g ≡ all ∖ d → g ≡ groundIs (nodes t) d
 unfolding groundIs

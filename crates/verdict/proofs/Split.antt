@@ -12,9 +12,9 @@ use Rattle.meanings.specs.Table.{nodes, satisfied}
 use Rattle.meanings.specs.Trees.{walk, thenWalk, stuck}
 use Rattle.theory.proofs.QuorumTree.{choices, chosen-in}
 use Rattle.tables.proofs.Sound.{sound-table}
-use Rattle.branches.specs.declared.Visit.{Visit}
-use Rattle.branches.specs.Branches.{Stands, Ready}
-use Rattle.branches.proofs.Laws.{reached}
+use Rattle.quorum_visits.specs.declared.Visit.{Visit}
+use Rattle.quorum_visits.specs.Branches.{Stands, Ready}
+use Rattle.quorum_visits.proofs.Laws.{reached}
 use Rattle.answers.specs.declared.Verdict.{Verdict}
 use Rattle.answers.specs.declared.Verdict.the-variants.{Yes, No, Spent, Unsplit, Outside, Bad}
 use Rattle.verdict.specs.Search.{Splitting, treeOf}

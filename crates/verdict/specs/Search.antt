@@ -10,8 +10,8 @@ use Rattle.meanings.specs.Table.{nodes, satisfied}
 use Rattle.meanings.specs.Trees.{Tree, Pair, Walk, hit, missed, stuck, quorumTree, overHalf, pairAt, walk}
 use Rattle.answers.specs.declared.Verdict.{Verdict}
 use Rattle.answers.specs.declared.Verdict.the-variants.{Yes, No, Spent, Unsplit}
-use Rattle.branches.specs.declared.Visit.{Visit}
-use Rattle.branches.specs.Branches.{Stands, Waiter}
+use Rattle.quorum_visits.specs.declared.Visit.{Visit}
+use Rattle.quorum_visits.specs.Branches.{Stands, Waiter}
 use Rattle.verdict.specs.declared.Question.{Question}
 use Rattle.verdict.specs.declared.Step.{Step}
 use Rattle.verdict.specs.declared.Step.the-variants.{Leaf, Pair as PairAt, Split}

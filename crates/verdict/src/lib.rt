@@ -10,8 +10,8 @@ ghost use Rattle.plans.specs.Plans.{Planned};
 ghost use Rattle.verdict.specs.Promise.{VerdictPromise};
 use answers::Checked;
 use answers::Verdict;
-use branches::Met;
-use branches::Visit;
+use quorum_visits::Met;
+use quorum_visits::Visit;
 
 // What stays the same throughout a search: the nodes counted out, the ground and half its number, and the allowance.
 pub struct Question {
@@ -37,13 +37,13 @@ fn look(t: &[u64], plan: &[u64], q: Question, a: Visit) -> Step
     if q.half < sets::count(a.c) {
         return Step::Leaf;
     }
-    let met = branches::meet(t, plan, q.d, a);
+    let met = quorum_visits::meet(t, plan, q.d, a);
     match met {
         Met::Dry => Step::Leaf,
         Met::Waits(due) => Step::Split(due),
         Met::Quorum => {
             let rest = sets::without(q.ground, a.c);
-            let h = lasting::lasting(t, plan, q.d, rest, rest, 0);
+            let h = greatest::greatest_within(t, plan, q.d, rest, rest, 0);
             if h == 0 {
                 return Step::Leaf;
             }
@@ -77,12 +77,12 @@ fn search(t: &[u64], plan: &[u64], q: Question, a: Visit, spent: u64) -> Verdict
                 return Verdict::Unsplit;
             }
             let v = sets::first(on);
-            let without = branches::below(t, plan, q.d, a, v, due, false);
+            let without = quorum_visits::below(t, plan, q.d, a, v, due, false);
             let first = search(t, plan, q, without, visits);
             let Verdict::Yes { visits: after } = first else {
                 return first;
             };
-            let with = branches::below(t, plan, q.d, a, v, due, true);
+            let with = quorum_visits::below(t, plan, q.d, a, v, due, true);
             search(t, plan, q, with, after)
         }
     }
@@ -107,7 +107,7 @@ pub fn search_from(
         half,
         allowance,
     };
-    let root = branches::root(t, plan, d, ground);
+    let root = quorum_visits::root(t, plan, d, ground);
     search(t, plan, q, root, spent)
 }
 

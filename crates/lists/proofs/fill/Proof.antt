@@ -9,13 +9,13 @@ use Rattle.meanings.specs.Table.{nodes, satisfied}
 use Rattle.meanings.specs.Trees.{Tree, list}
 use Rattle.meanings.specs.Replies.{Lent}
 use Rattle.meanings.specs.Questions.{listSays, listPuts}
-use Rattle.visits.specs.declared.Sought.{Sought}
-use Rattle.visits.specs.Visits.{treeAt}
+use Rattle.listing_visits.specs.declared.Sought.{Sought}
+use Rattle.listing_visits.specs.Visits.{treeAt}
 use Rattle.answers.specs.declared.Listed.{Listed}
 use Rattle.answers.specs.declared.Listed.the-variants.{Sets, Short}
 use Rattle.answers.specs.Said.{listedSays}
 use Rattle.lists.specs.Lists.{treeOf}
-use Rattle.walks.proofs.Laws.{refused}
+use Rattle.listing_walk.proofs.Laws.{refused}
 use Rattle.lists.proofs.Promise.{own-refused, own-short, own-copied, lent-walked}
 use borrow.Author.Needs.{needs}
 use Rattle.lists.proofs.fill.Statement.{statement}

@@ -15,7 +15,7 @@ use Rattle.verdict.proofs.search.Kinds as search-kinds
 use Rattle.verdict.proofs.+search.Lts-search as search-lts
 use Rattle.sets.proofs.first.Reads as first-reads
 use Rattle.sets.proofs.without.Reads as without-reads
-use Rattle.branches.proofs.below.Reads as below-reads
+use Rattle.quorum_visits.proofs.below.Reads as below-reads
 use Rattle.verdict.proofs.look.Reads as look-reads
 use Rattle.verdict.proofs.+search.{statement}
 use Rattle.verdict.proofs.+search.Tie.{close}

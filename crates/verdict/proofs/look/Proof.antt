@@ -9,8 +9,8 @@ use Rattle.meanings.specs.Quorums.{quorum, greatest, ground as groundIs}
 use Rattle.meanings.specs.Trees.{overHalf}
 use Rattle.theory.proofs.Quorum.{ground-lt}
 use Rattle.tables.proofs.Sound.{sound-table}
-use Rattle.lasting.proofs.Laws.{holding-nobody}
-use Rattle.branches.specs.Branches.{dry, MetIs}
+use Rattle.greatest.proofs.Laws.{holding-nobody}
+use Rattle.quorum_visits.specs.Branches.{dry, MetIs}
 use Rattle.verdict.proofs.Looks.{over-half, over, not-over, dry-leaf, alone, apart}
 use Rattle.verdict.proofs.Root.{ground-due}
 use borrow.Author.Needs.{needs}
@@ -53,8 +53,8 @@ enum-told-2 c = search needs
 without-requires : tie.Need-without-requires
 without-requires c κs = search needs
 
-lasting-requires : tie.Need-lasting-requires
-lasting-requires c κs =
+greatest-within-requires : tie.Need-greatest-within-requires
+greatest-within-requires c κs =
     let s = c .before .before .before .before .before .before .before .before .before in
     let n = nodes (s .args .t .now) in (
       s .pre .stands .planned,
@@ -74,13 +74,13 @@ quorate c =
     subst (MetIs (s .args .t .now) (s .args .q .d) (s .args .a)) (c .enum-told2 .given .1) (M .meet .ensures)
 
 -- what lies outside it
-outside : (c : tie.After-lasting) →
+outside : (c : tie.After-greatest-within) →
     let s = c .before .before .before .before .before .before .before .before .before .before in
-    c .lasting .result ≡ greatest (nodes (s .args .t .now)) (satisfied (s .args .t .now)) (s .args .q .d) (groundIs (nodes (s .args .t .now)) (s .args .q .d) ∖ s .args .a .c)
+    c .greatest-within .result ≡ greatest (nodes (s .args .t .now)) (satisfied (s .args .t .now)) (s .args .q .d) (groundIs (nodes (s .args .t .now)) (s .args .q .d) ∖ s .args .a .c)
 outside c =
     let s = c .before .before .before .before .before .before .before .before .before .before in
     let T = s .args .t .now in
-    c .lasting .ensures ∙ sym (holding-nobody (greatest (nodes T) (satisfied T) (s .args .q .d) (c .before .without .result)))
+    c .greatest-within .ensures ∙ sym (holding-nobody (greatest (nodes T) (satisfied T) (s .args .q .d) (c .before .without .result)))
     ∙ ap (greatest (nodes T) (satisfied T) (s .args .q .d)) (c .before .without .ensures ∙ ap (λ (x : ℕ). x ∖ s .args .a .c) (s .pre .ground-is))
 
 returns-2 : tie.Need-returns-2
@@ -89,7 +89,7 @@ returns-2 c =
     let E = H .before .before in
     let M = E .before .before in
     let s = M .before .before .before .before .before .before in
-    alone (s .args .t .now) (s .args .q .d) (s .args .a .c) (s .args .a .r) (few (M .before)) (quorate E .0) (quorate E .1) (H .lasting .result) (outside H) (c .if2 .taken)
+    alone (s .args .t .now) (s .args .q .d) (s .args .a .c) (s .args .a .r) (few (M .before)) (quorate E .0) (quorate E .1) (H .greatest-within .result) (outside H) (c .if2 .taken)
 
 returns-3 : tie.Need-returns-3
 returns-3 c =
@@ -111,7 +111,7 @@ returns-5 c =
     let E = H .before .before in
     let M = E .before .before in
     let s = M .before .before .before .before .before .before in
-    apart (s .args .t .now) (s .args .q .d) (s .args .a .c) (s .args .a .r) (few (M .before)) (quorate E .0) (quorate E .1) (H .lasting .result) (outside H) (c .if2 .left)
+    apart (s .args .t .now) (s .args .q .d) (s .args .a .c) (s .args .a .r) (few (M .before)) (quorate E .0) (quorate E .1) (H .greatest-within .result) (outside H) (c .if2 .left)
 
 pub look-spec : {M : Type 1} → statement M
 look-spec =
@@ -124,7 +124,7 @@ look-spec =
     enum-known-met
     enum-told-2
     without-requires
-    lasting-requires
+    greatest-within-requires
     returns-2
     returns-3
     returns-4

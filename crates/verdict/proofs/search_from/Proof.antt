@@ -6,7 +6,7 @@ use Rattle.meanings.specs.Table.{nodes}
 use Rattle.meanings.specs.Trees.{verdictTree, walk}
 use Rattle.theory.proofs.Quorum.{ground-lt}
 use Rattle.tables.proofs.Sound.{sound-table}
-use Rattle.branches.specs.declared.Visit.{Visit}
+use Rattle.quorum_visits.specs.declared.Visit.{Visit}
 use Rattle.verdict.specs.Search.{treeOf, within}
 use Rattle.verdict.proofs.Root.{ground-apart}
 use borrow.Author.Needs.{needs}

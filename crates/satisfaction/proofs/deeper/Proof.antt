@@ -1,0 +1,49 @@
+-- The walk over the inner sets ends at once: no record is left, or the next one is not below this.
+use native.Mathlib.Omega.{arith}
+use Prim.Native.Nat.{_+_, _≤_}
+use borrow.Author.Tests.{ltb-false}
+use Rattle.meanings.specs.Table.{records, level}
+use Rattle.tables.proofs.Runs.{from-end, from-stop}
+use Rattle.tables.proofs.Sound.{record-in, sound-table}
+use Rattle.satisfaction.proofs.deeper.Statement.{statement}
+use Rattle.satisfaction.proofs.deeper.Tie as tie
+
+add-if1 : tie.Need-add-if1
+add-if1 c =
+    let s = c .before in
+    let w = sound-table (s .args .t .now) (s .pre .0) .records-le in
+    omega (arith, s .pre .1)
+
+returns : tie.Need-returns
+unfolding records
+returns c =
+    let s = c .before .before in
+    λ e f. from-end f (s .args .t .now) (level (s .args .t .now) (s .args .r)) (s .args .r + 1) (omega (arith, c .if1 .taken))
+
+level-requires : tie.Need-level-requires
+level-requires c κs = let s = c .before .before in record-in (s .args .t .now) (s .args .r) (s .pre .1)
+
+add-level : tie.Need-add-level
+add-level c =
+    let s = c .before .before .before in
+    let w = sound-table (s .args .t .now) (s .pre .0) .records-le in
+    omega (arith, s .pre .1)
+
+level-requires-2 : tie.Need-level-requires-2
+unfolding records
+level-requires-2 c κs =
+    let s = c .before .before .before in
+    record-in (s .args .t .now) (s .args .r + 1) (omega (arith, s .pre .1, c .before .if1 .left))
+
+returns-2 : tie.Need-returns-2
+returns-2 c =
+    let L = c .before in
+    let s = L .before .before .before in
+    λ e f.
+    let l : c .level2 .result ≤ L .level .result = ltb-false (L .level .result) (c .level2 .result) e in
+    let a = L .level .ensures .0 in
+    let b = c .level2 .ensures .0 in
+    from-stop f (s .args .t .now) (level (s .args .t .now) (s .args .r)) (s .args .r + 1) (omega arith)
+
+pub deeper-spec : {M : Type 1} → statement M
+deeper-spec = tie.close (tie.spec add-if1 returns level-requires add-level level-requires-2 returns-2)
