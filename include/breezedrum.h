@@ -6,10 +6,10 @@
  *
  * Arguments come in one order: inputs (pointer, then length), then sets and numbers, then the allowance, then the lent buffer and its room.
  *
- * To build: `rt staticlib doors` proves the library and writes target/staticlib/libdoors.a, for x86-64 Linux. It needs nothing but memcpy
+ * To build: `rt staticlib interface` proves the library and writes target/staticlib/libinterface.a, for x86-64 Linux. It needs nothing but memcpy
  * and memset, which every C library has:
  *
- *   gcc -Iinclude -o target/yours yours.c target/staticlib/libdoors.a
+ *   gcc -Iinclude -o target/yours yours.c target/staticlib/libinterface.a
  *
  * What a caller owes: a pointer is aligned for its type and good for its length (NULL with length 0 is fine), and a lent buffer overlaps
  * neither an input nor another lent buffer. The proofs rest on this.

@@ -22,7 +22,7 @@ use Rattle.meanings.specs.Replies.{Reply, reply, _is_, Set, First, Second, Visi
 use Rattle.meanings.specs.Questions.{inNodes, intactReply, intactSays as searchSays}
 use Rattle.theory.proofs.Verdict.{Decided, all-meet, two-apart, decided}
 use Rattle.theory.proofs.Intact.{search-step}
-use Rattle.theory.proofs.Numbers.{OnlyNine, larger-says, after-check, after-nodes}
+use Rattle.faults.proofs.Numbers.{OnlyNine, larger-says, after-check, after-nodes}
 use Rattle.satisfaction.proofs.Monotone.{satisfied-monotone}
 use Rattle.answers.specs.Said.{intactSays}
 use Rattle.answers.specs.declared.Intact.{Intact}

@@ -21,7 +21,7 @@ use Rattle.meanings.specs.Replies.{Reply, reply, _is_, Set, First, Second, Visi
 use Rattle.meanings.specs.Questions.{inAllowance, intactReply, intactSays as replySays}
 use Rattle.theory.proofs.Verdict.{sound-disjoint}
 use Rattle.theory.proofs.Intact.{start, rounds-answer, intact-answer, intact-divided}
-use Rattle.theory.proofs.Numbers.{Further, Opened, opened, past-opening, in-allowance, over-allowance}
+use Rattle.faults.proofs.Numbers.{Further, Opened, opened, past-opening, in-allowance, over-allowance}
 use Rattle.satisfaction.proofs.Monotone.{satisfied-monotone}
 use Rattle.answers.specs.Said.{intactSays}
 use Rattle.answers.specs.declared.Intact.{Intact}

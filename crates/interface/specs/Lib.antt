@@ -1,1 +1,1 @@
-pub mod Doors
+pub mod Interface

@@ -1,4 +1,4 @@
-// The doors for technicians: every public operation under a C name. A function takes what the operation takes and no more; an answer is
+// The C interface, for technicians: every public operation under a C name. A function takes what the operation takes and no more; an answer is
 // one struct with the number, the place and the fields of document 01's table, 0 where a field is not named.
 ghost use Rattle.meanings.specs.Of as of;
 ghost use Rattle.meanings.specs.Questions.{checkReply, quorumReply, greatestReply, blocksReply, verdictReply, minimalReply, blockingReply, intactReply};
@@ -6,7 +6,7 @@ ghost use lib.ListN.{length};
 ghost use Rattle.sheets.specs.Sheets.{sheetText, readReply, readPuts, writeReply, roomReply};
 ghost use Rattle.report.specs.Report.{reportOf};
 ghost use Rattle.replies.specs.Shows.{Shows};
-ghost use Rattle.interface.specs.Doors.{Fills};
+ghost use Rattle.interface.specs.Interface.{Fills};
 use replies::Reply;
 
 // Checks a packed table.

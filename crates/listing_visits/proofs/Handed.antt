@@ -19,7 +19,7 @@ use Rattle.greatest.specs.Greatest.{holding, Striking}
 use Rattle.greatest.proofs.Laws.{holding-nobody}
 use Rattle.greatest.proofs.Below.{none-within, closed-greatest}
 use Rattle.quorum_visits.specs.declared.Visit.{Visit}
-use Rattle.quorum_visits.specs.Branches as Branches
+use Rattle.quorum_visits.specs.Visits as Branches
 use Rattle.listing_visits.specs.declared.Sought.{Sought}
 use Rattle.listing_visits.specs.declared.Sought.the-variants.{Quorums, Blocking}
 use Rattle.listing_visits.specs.Visits.{Ground, Stands, Known, KnownBlocking, ReadyBlocking, Below}

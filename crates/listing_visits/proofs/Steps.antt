@@ -17,7 +17,7 @@ use Rattle.theory.proofs.Greatest.{greatest-holds, holds-greatest}
 use Rattle.theory.proofs.QuorumTree as Q
 use Rattle.theory.proofs.Blocking as B
 use Rattle.quorum_visits.specs.declared.Visit.{Visit}
-use Rattle.quorum_visits.specs.Branches as Branches
+use Rattle.quorum_visits.specs.Visits as Branches
 use Rattle.quorum_visits.proofs.Laws.{reached}
 use Rattle.listing_visits.specs.declared.Sought.the-variants.{Quorums, Blocking}
 use Rattle.listing_visits.specs.declared.Step.{Step}

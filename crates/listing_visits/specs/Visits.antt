@@ -14,7 +14,7 @@ use Rattle.listing_visits.specs.declared.Sought.the-variants.{Quorums, B
 use Rattle.listing_visits.specs.declared.Step.{Step}
 use Rattle.listing_visits.specs.declared.Step.the-variants.{Leaf, Listed, Stuck, Split}
 use Rattle.quorum_visits.specs.declared.Visit.{Visit}
-use Rattle.quorum_visits.specs.Branches as Branches
+use Rattle.quorum_visits.specs.Visits as Branches
 
 -- ---- what stays the same throughout a search: a plan of the table, and all its nodes
 pub record Ground (t plan : List ℕ) (all : ℕ) : Type 0 where

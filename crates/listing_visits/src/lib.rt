@@ -8,7 +8,7 @@ ghost use Rattle.meanings.specs.Of as of;
 ghost use Rattle.sets.specs.Sets.{has, nobody, everyone, only, _∪_, _∖_};
 ghost use Rattle.meanings.specs.Table.{nodes, satisfied};
 ghost use Rattle.listing_visits.specs.declared.Sought.the-variants as Sx;
-ghost use Rattle.quorum_visits.specs.Branches.{chosenBelow};
+ghost use Rattle.quorum_visits.specs.Visits.{chosenBelow};
 ghost use Rattle.listing_visits.specs.Visits.{Ground, Stands, Ready, ReadyBlocking, Asked, Left, spared, isMinimal, Comes, chosen, Below};
 use quorum_visits::Met;
 use quorum_visits::Visit;

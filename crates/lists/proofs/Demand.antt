@@ -18,7 +18,7 @@ use Rattle.meanings.specs.Questions.{onCheck, inAllowance, inRoom, listSays, mi
 use Rattle.theory.proofs.Walks.{visits}
 use Rattle.theory.proofs.Minimal.{minimal-listed, minimal-visits}
 use Rattle.theory.proofs.Blocking.{blocking-listed, blocking-visits}
-use Rattle.theory.proofs.Numbers.{Further, table-sound, in-allowance, over-allowance}
+use Rattle.faults.proofs.Numbers.{Further, table-sound, in-allowance, over-allowance}
 use Rattle.satisfaction.proofs.Monotone.{satisfied-monotone}
 use Rattle.lists.proofs.Means.{more-says}
 

@@ -20,7 +20,7 @@ use Rattle.meanings.specs.Questions.{onCheck, inRoom, listSays, listPuts, minim
 use Rattle.theory.proofs.Walks.{visits}
 use Rattle.theory.proofs.Minimal.{minimal-listed, minimal-visits}
 use Rattle.theory.proofs.Blocking.{blocking-listed, blocking-visits}
-use Rattle.theory.proofs.Numbers.{OnlyNine, larger-says, after-check}
+use Rattle.faults.proofs.Numbers.{OnlyNine, larger-says, after-check}
 use Rattle.satisfaction.proofs.Monotone.{satisfied-monotone}
 use Rattle.answers.specs.declared.Listed.{Listed}
 use Rattle.answers.specs.declared.Listed.the-variants.{Sets, Unsplit}

@@ -19,7 +19,7 @@ use Rattle.plans.specs.Plans.{Planned}
 use Rattle.greatest.specs.Greatest.{holding, Waiting, Apart, Striking}
 use Rattle.greatest.proofs.Below.{held, not-held, held-is, apart-none, none-waiting, waiting-grows, one-lt, strikes-one, left-out, taken-in}
 use Rattle.quorum_visits.specs.declared.Visit.{Visit}
-use Rattle.quorum_visits.specs.Branches.{reach, dry, Stands, Waiter, Ready, Below}
+use Rattle.quorum_visits.specs.Visits.{reach, dry, Stands, Waiter, Ready, Below}
 
 -- ---- steps (2) and (3)
 module _ (t plan : List ℕ) (d : ℕ) (a : Visit) (S : Stands t plan d a) where

@@ -1,1 +1,1 @@
-pub mod Branches
+pub mod Visits

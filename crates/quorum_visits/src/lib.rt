@@ -7,7 +7,7 @@ ghost use Rattle.sets.specs.Sets.{only, _∪_, _∖_};
 ghost use Rattle.meanings.specs.Table.{nodes};
 ghost use Rattle.plans.specs.Plans.{Planned};
 ghost use Rattle.greatest.specs.Greatest.{Apart};
-ghost use Rattle.quorum_visits.specs.Branches.{Stands, MetIs, Ready, Below, chosenBelow, rootIs};
+ghost use Rattle.quorum_visits.specs.Visits.{Stands, MetIs, Ready, Below, chosenBelow, rootIs};
 
 // The chosen nodes c and the open nodes r; the greatest quorum g in reach; the chosen nodes that are due, which may be unsatisfied; and
 // whether c has grown since the visit above.

@@ -8,11 +8,10 @@ use mathlib.Core.List.{List, [], _∷_, _++_}
 use borrow.Author.Tests.{lt-ltb}
 use lib.ListN.{length, drop}
 use Rattle.decimal.proofs.Order.{lt-or-le}
-use Rattle.sets.specs.Lists.{from}
-use Rattle.meanings.specs.Table.{records}
-use Rattle.meanings.specs.Faults.{Check, sound, fault, orElse, faultIf, firstFault, badCount, badControl, badLevel, surplus, noThreshold, strangers, tooHigh, shapeFault, entryFault, check}
+use Rattle.meanings.specs.Faults.{Check, sound, fault, check}
 use Rattle.meanings.specs.Replies.{reply, _is_, Place}
 use Rattle.meanings.specs.Questions.{onCheck}
+use Rattle.faults.proofs.Numbers.{check-numbered}
 use Rattle.lines.specs.Lines.{readLine}
 use Rattle.lines.specs.declared.Line.{Line}
 use Rattle.lines.specs.declared.Line.the-variants.{Good, Bad}
@@ -20,57 +19,8 @@ use Rattle.sheets.specs.Sheets.{Taken, words, stops, onTaken, before, ta
 use Rattle.sheets.proofs.Taking.{no-more, one-too-many, bad-line, good-line}
 
 -- ---- the numbers of a table's faults
-abbrev Above : Check → Type 0
-Above c = (k p : ℕ) → c ≡ fault k p → 0 < k
-
-sound-above : Above sound
-sound-above k p e = let z : _≡_ {A = ℕ} 0 1 = cc in absurd (omega arith)
-
-fault-above : (n q : ℕ) → 0 < n → Above (fault n q)
-fault-above n q h k p e = let z : n ≡ k = cc in omega arith
-
-or-above : (a b : Check) → Above a → Above b → Above (orElse a b)
-or-above sound b f g = g
-or-above (fault n q) b f g = f
-
-if-above : (b : Bool) (n q : ℕ) → 0 < n → Above (faultIf b n q)
-if-above true n q h = fault-above n q h
-if-above false n q h = sound-above
-
-first-above : (f : ℕ → Check) → ((r : ℕ) → Above (f r)) → (l : List ℕ) → Above (firstFault f l)
-unfolding firstFault
-first-above f h [] = sound-above
-first-above f h (r ∷ l) = or-above (f r) (firstFault f l) (h r) (first-above f h l)
-
-module _ (t : List ℕ) where
-  shape-above : (r : ℕ) → Above (shapeFault t r)
-  unfolding shapeFault
-  shape-above r =
-      let c2 = faultIf (badControl t r) 2 (suc r) in
-      let c3 = faultIf (badLevel t r) 3 (suc r) in
-      let c4 = faultIf (surplus t r) 4 (suc r) in
-      let c5 = faultIf (noThreshold t r) 5 (suc r) in
-      or-above c2 (orElse c3 (orElse c4 c5)) (if-above (badControl t r) 2 (suc r) (omega arith))
-      (or-above c3 (orElse c4 c5) (if-above (badLevel t r) 3 (suc r) (omega arith))
-      (or-above c4 c5 (if-above (surplus t r) 4 (suc r) (omega arith)) (if-above (noThreshold t r) 5 (suc r) (omega arith))))
-
-  entry-above : (r : ℕ) → Above (entryFault t r)
-  unfolding entryFault
-  entry-above r =
-      or-above (faultIf (strangers t r) 6 (suc r)) (faultIf (tooHigh t r) 7 (suc r)) (if-above (strangers t r) 6 (suc r) (omega arith))
-      (if-above (tooHigh t r) 7 (suc r) (omega arith))
-
-  by-count : (b : Bool) (c : Check) → Above c → Above (elim b [ true ↦ fault 1 0 | false ↦ c ])
-  by-count true c h = fault-above 1 0 (omega arith)
-  by-count false c h = h
-
-  pub check-above : (k p : ℕ) → check t ≡ fault k p → 0 < k
-  unfolding check
-  check-above =
-      let a = firstFault (shapeFault t) (from 0 (records t)) in
-      let b = firstFault (entryFault t) (from 0 (records t)) in
-      by-count (badCount t) (orElse a b)
-      (or-above a b (first-above (shapeFault t) shape-above (from 0 (records t))) (first-above (entryFault t) entry-above (from 0 (records t))))
+pub check-above : (t : List ℕ) (k p : ℕ) → check t ≡ fault k p → 0 < k
+check-above t k p e = let h = check-numbered t k p e in omega arith
 
 -- ---- the numbers that stop the lines
 abbrev StopsAbove : Taken → Type 0

@@ -8,4 +8,3 @@ pub mod Verdict
 pub mod Minimal
 pub mod Blocking
 pub mod Intact
-pub mod Numbers

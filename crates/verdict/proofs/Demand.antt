@@ -17,7 +17,7 @@ use Rattle.meanings.specs.Trees.{Pair, Walk, hit, missed, stuck, verdictTree, w
 use Rattle.meanings.specs.Replies.{Reply, reply, _is_, Answer, First, Second, Visits, value}
 use Rattle.meanings.specs.Questions.{inNodes, inAllowance, verdictReply, verdictSays as searchSays}
 use Rattle.theory.proofs.Verdict.{Decided, all-meet, two-apart, decided, sound-disjoint}
-use Rattle.theory.proofs.Numbers.{Further, Opened, opened, past-opening, in-allowance, over-allowance, OnlyNine, larger-says, after-check, after-nodes}
+use Rattle.faults.proofs.Numbers.{Further, Opened, opened, past-opening, in-allowance, over-allowance, OnlyNine, larger-says, after-check, after-nodes}
 use Rattle.satisfaction.proofs.Monotone.{satisfied-monotone}
 use Rattle.answers.specs.Said.{verdictSays}
 use Rattle.answers.specs.declared.Verdict.{Verdict}

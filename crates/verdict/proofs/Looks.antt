@@ -14,7 +14,7 @@ use Rattle.meanings.specs.Quorums.{ground, quorum, greatest, holdsQuorum}
 use Rattle.meanings.specs.Trees.{hit, missed, stuck, foundIf, overHalf, pairAt, walk, thenWalk}
 use Rattle.theory.proofs.Greatest.{greatest-holds, holds-greatest}
 use Rattle.theory.proofs.QuorumTree.{choices, chosen, below, choices-lt, below-lt, fewer, tree-pruned, tree-dry, tree-quorum, tree-unsplit, tree-parts}
-use Rattle.quorum_visits.specs.Branches.{dry}
+use Rattle.quorum_visits.specs.Visits.{dry}
 use Rattle.verdict.specs.Search.{treeOf}
 
 module _ (t : List ℕ) (d c r : ℕ) where

@@ -13,7 +13,7 @@ use Rattle.meanings.specs.Trees.{walk, thenWalk, stuck}
 use Rattle.theory.proofs.QuorumTree.{choices, chosen-in}
 use Rattle.tables.proofs.Sound.{sound-table}
 use Rattle.quorum_visits.specs.declared.Visit.{Visit}
-use Rattle.quorum_visits.specs.Branches.{Stands, Ready}
+use Rattle.quorum_visits.specs.Visits.{Stands, Ready}
 use Rattle.quorum_visits.proofs.Laws.{reached}
 use Rattle.answers.specs.declared.Verdict.{Verdict}
 use Rattle.answers.specs.declared.Verdict.the-variants.{Yes, No, Spent, Unsplit, Outside, Bad}

@@ -11,7 +11,7 @@ use Rattle.meanings.specs.Trees.{Tree, Pair, Walk, hit, missed, stuck, quorumTr
 use Rattle.answers.specs.declared.Verdict.{Verdict}
 use Rattle.answers.specs.declared.Verdict.the-variants.{Yes, No, Spent, Unsplit}
 use Rattle.quorum_visits.specs.declared.Visit.{Visit}
-use Rattle.quorum_visits.specs.Branches.{Stands, Waiter}
+use Rattle.quorum_visits.specs.Visits.{Stands, Waiter}
 use Rattle.verdict.specs.declared.Question.{Question}
 use Rattle.verdict.specs.declared.Step.{Step}
 use Rattle.verdict.specs.declared.Step.the-variants.{Leaf, Pair as PairAt, Split}

@@ -1,6 +1,6 @@
 -- By what is sought.
 use mathlib.Core.Path.{sym, subst}
-use Rattle.quorum_visits.specs.Branches.{chosenBelow}
+use Rattle.quorum_visits.specs.Visits.{chosenBelow}
 use Rattle.listing_visits.specs.declared.Sought.{Sought}
 use Rattle.listing_visits.specs.Visits.{Stands, Ready, Below}
 use Rattle.listing_visits.proofs.Handed.{as-branch}

@@ -1,7 +1,7 @@
 -- Either way.
 use mathlib.Core.Path.{sym, subst}
 use mathlib.Core.Bool.{Bool}
-use Rattle.quorum_visits.specs.Branches.{chosenBelow}
+use Rattle.quorum_visits.specs.Visits.{chosenBelow}
 use Rattle.listing_visits.specs.declared.Sought.the-variants.{Blocking}
 use Rattle.listing_visits.specs.Visits.{Below}
 use borrow.Author.Needs.{needs}

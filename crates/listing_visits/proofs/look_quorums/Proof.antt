@@ -7,7 +7,7 @@ use Rattle.meanings.specs.Table.{nodes, satisfied}
 use Rattle.meanings.specs.Quorums.{quorum, minimalQuorum}
 use Rattle.meanings.specs.Trees.{foundIf}
 use Rattle.tables.proofs.Sound.{sound-table}
-use Rattle.quorum_visits.specs.Branches.{dry, MetIs}
+use Rattle.quorum_visits.specs.Visits.{dry, MetIs}
 use Rattle.listing_visits.specs.Visits.{treeAt, Comes}
 use Rattle.listing_visits.specs.declared.Sought.the-variants.{Quorums}
 use Rattle.listing_visits.proofs.Steps.{came, dried, at-quorum, quorums-split, lists, lists-not}

@@ -3,7 +3,7 @@ use mathlib.Core.Path.{ap, sym, subst}
 use Rattle.sets.specs.Sets.{nobody}
 use Rattle.sets.proofs.Members.{has-nobody}
 use Rattle.quorum_visits.specs.declared.Visit.{Visit}
-use Rattle.quorum_visits.specs.Branches as Branches
+use Rattle.quorum_visits.specs.Visits as Branches
 use Rattle.listing_visits.specs.Visits.{Stands}
 use Rattle.listing_visits.proofs.Handed.{all-lt, starts}
 use Rattle.listing_visits.proofs.root.Statement.{statement}

@@ -1,7 +1,7 @@
 -- Either way.
 use mathlib.Core.Path.{sym, subst}
 use mathlib.Core.Bool.{Bool}
-use Rattle.quorum_visits.specs.Branches.{Below, chosenBelow}
+use Rattle.quorum_visits.specs.Visits.{Below, chosenBelow}
 use borrow.Author.Needs.{needs}
 use Rattle.quorum_visits.proofs.below.Statement.{statement}
 use Rattle.quorum_visits.proofs.below.Tie as tie

@@ -10,7 +10,7 @@ use Rattle.meanings.specs.Trees.{overHalf}
 use Rattle.theory.proofs.Quorum.{ground-lt}
 use Rattle.tables.proofs.Sound.{sound-table}
 use Rattle.greatest.proofs.Laws.{holding-nobody}
-use Rattle.quorum_visits.specs.Branches.{dry, MetIs}
+use Rattle.quorum_visits.specs.Visits.{dry, MetIs}
 use Rattle.verdict.proofs.Looks.{over-half, over, not-over, dry-leaf, alone, apart}
 use Rattle.verdict.proofs.Root.{ground-due}
 use borrow.Author.Needs.{needs}
