@@ -1,4 +1,4 @@
-/* Breezedrum: a proved checker of trust sheets. The doors of its static library.
+/* Breezedrum: a proved checker of trust sheets. The C interface of its static library.
  *
  * Every function takes any input, comes to an end, and answers a struct: the number of document 01's table, and its fields, 0 where a
  * number does not name a field. A number above 0 leaves every lent buffer as it was; an answer (number 0) writes only its own words or

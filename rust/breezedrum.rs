@@ -24,7 +24,7 @@ pub fn ids(set: u64) -> Vec<u32> {
     (0..64).filter(|node| set >> node & 1 == 1).collect()
 }
 
-mod doors {
+mod c {
     use super::Reply;
     extern "C" {
         pub fn breezedrum_check(table: *const u64, words: usize) -> Reply;
@@ -43,55 +43,55 @@ mod doors {
 
 /// Checks a packed table.
 pub fn check(table: &[u64]) -> Reply {
-    unsafe { doors::breezedrum_check(table.as_ptr(), table.len()) }
+    unsafe { c::breezedrum_check(table.as_ptr(), table.len()) }
 }
 
 /// Reads a sheet into `table`.
 pub fn read_sheet(sheet: &[u8], table: &mut [u64]) -> Reply {
-    unsafe { doors::breezedrum_read_sheet(sheet.as_ptr(), sheet.len(), table.as_mut_ptr(), table.len()) }
+    unsafe { c::breezedrum_read_sheet(sheet.as_ptr(), sheet.len(), table.as_mut_ptr(), table.len()) }
 }
 
 /// Writes a table as a sheet into `sheet`.
 pub fn write_sheet(table: &[u64], sheet: &mut [u8]) -> Reply {
-    unsafe { doors::breezedrum_write_sheet(table.as_ptr(), table.len(), sheet.as_mut_ptr(), sheet.len()) }
+    unsafe { c::breezedrum_write_sheet(table.as_ptr(), table.len(), sheet.as_mut_ptr(), sheet.len()) }
 }
 
 /// Writes the report on a sheet into `out`: what the report program prints, a bad sheet's one line included.
 pub fn report(sheet: &[u8], out: &mut [u8]) -> Reply {
-    unsafe { doors::breezedrum_report(sheet.as_ptr(), sheet.len(), out.as_mut_ptr(), out.len()) }
+    unsafe { c::breezedrum_report(sheet.as_ptr(), sheet.len(), out.as_mut_ptr(), out.len()) }
 }
 
 /// Is `set` a quorum, with `out` counted out?
 pub fn is_quorum(table: &[u64], out: u64, set: u64) -> Reply {
-    unsafe { doors::breezedrum_quorum(table.as_ptr(), table.len(), out, set) }
+    unsafe { c::breezedrum_quorum(table.as_ptr(), table.len(), out, set) }
 }
 
 /// The greatest quorum within `set`, with `out` counted out, and its rounds.
 pub fn greatest(table: &[u64], out: u64, set: u64) -> Reply {
-    unsafe { doors::breezedrum_greatest(table.as_ptr(), table.len(), out, set) }
+    unsafe { c::breezedrum_greatest(table.as_ptr(), table.len(), out, set) }
 }
 
 /// Does `set` block `node`?
 pub fn blocks(table: &[u64], set: u64, node: u64) -> Reply {
-    unsafe { doors::breezedrum_blocks(table.as_ptr(), table.len(), set, node) }
+    unsafe { c::breezedrum_blocks(table.as_ptr(), table.len(), set, node) }
 }
 
 /// Do all quorums intersect, with `out` counted out?
 pub fn verdict(table: &[u64], out: u64, allowance: u64) -> Reply {
-    unsafe { doors::breezedrum_verdict(table.as_ptr(), table.len(), out, allowance) }
+    unsafe { c::breezedrum_verdict(table.as_ptr(), table.len(), out, allowance) }
 }
 
 /// The minimal quorums, in the listing order, into `sets`.
 pub fn minimal(table: &[u64], allowance: u64, sets: &mut [u64]) -> Reply {
-    unsafe { doors::breezedrum_minimal(table.as_ptr(), table.len(), allowance, sets.as_mut_ptr(), sets.len()) }
+    unsafe { c::breezedrum_minimal(table.as_ptr(), table.len(), allowance, sets.as_mut_ptr(), sets.len()) }
 }
 
 /// The minimal blocking sets, in the listing order, into `sets`.
 pub fn blocking(table: &[u64], allowance: u64, sets: &mut [u64]) -> Reply {
-    unsafe { doors::breezedrum_blocking(table.as_ptr(), table.len(), allowance, sets.as_mut_ptr(), sets.len()) }
+    unsafe { c::breezedrum_blocking(table.as_ptr(), table.len(), allowance, sets.as_mut_ptr(), sets.len()) }
 }
 
 /// The nodes that stay intact for the ill set `ill`.
 pub fn intact(table: &[u64], ill: u64, allowance: u64) -> Reply {
-    unsafe { doors::breezedrum_intact(table.as_ptr(), table.len(), ill, allowance) }
+    unsafe { c::breezedrum_intact(table.as_ptr(), table.len(), ill, allowance) }
 }
