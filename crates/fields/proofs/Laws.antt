@@ -7,6 +7,7 @@ use mathlib.Core.Path.{_≡_, refl, sym, ap, _∙_}
 use mathlib.Core.List.{List, [], _∷_, _++_, append-assoc, append-nil}
 use mathlib.Core.Bool.{Bool, true, false, cond}
 use lib.Dec.{ltb, eqb}
+use Rattle.decimal.specs.Bytes.{Written}
 use Rattle.decimal.specs.Decimal.{numeral}
 use Rattle.decimal.proofs.Numeral.{length-word}
 use Rattle.members.specs.Members.{memberText}
@@ -109,3 +110,7 @@ line-most (k ∷ x ∷ l) h =
       field-most k x (h 1),
       line-most l (λ i. h (suc (suc i))),
     )
+
+-- ---- what a writer of a text promises fits one result only
+pub written-exact : (w d a b : List ℕ) (n m : ℕ) → Written w d a n → Written w d b m → (a ≡ b) × (n ≡ m)
+written-exact w d a b n m p q = (p .bytes ∙ sym (q .bytes), p .count ∙ sym (q .count))
