@@ -25,7 +25,8 @@ use Rattle.lists.proofs.Means.{minimal-all, blocking-all}
 use Rattle.fields.specs.Words as word
 use Rattle.report_lines.specs.Lines.{listLine, setLines}
 use Rattle.report_lines.proofs.Told.{nodes-told, verdict-told, list-told}
-use Rattle.report.specs.Report.{following, listPart, listText, Part, headText, allText, headPart, minimalPart, blockingPart, reportOn, allowance, room}
+use Rattle.report_parts.specs.Parts.{following, listText, headText, allText}
+use Rattle.report.specs.Report.{listPart, Part, headPart, minimalPart, blockingPart, reportOn, allowance, room}
 
 -- a fault's number is not 0
 pub fault-some : (f : Fault) → eqb (faultSays f .number) 0 ≡ false

@@ -13,11 +13,11 @@ use Rattle.meanings.specs.Questions.{checkReply, verdictReply, minimalReply, bl
 use Rattle.answers.specs.Said.{wroteSays}
 use Rattle.answers.specs.declared.Wrote.{Wrote}
 use Rattle.replies.specs.declared.Reply.{Reply as Struct}
-use Rattle.replies.specs.Shows.{told}
 use Rattle.sheets.specs.Sheets.{readReply, readPuts}
 use Rattle.sheets.specs.Promises.{Put}
 use Rattle.fields.specs.Words as word
 use Rattle.report_lines.specs.Lines.{refusedLine, nodesLine, verdictLine, listLine, setLines}
+use Rattle.report_parts.specs.Parts.{following, listText}
 
 -- a list: its line, and its sets where it is answered; with 9, 10 or 13 no set lines follow
 unfoldable pub listPart : (name letter : List ℕ) → Reply → List ℕ → List ℕ
@@ -57,20 +57,7 @@ reportOf s = cond (eqb (readReply s mostWords .number) 0) (reportOn (readPuts s)
 abbrev pub ReportPromise : (sheet before after : List ℕ) → Wrote → Type 0
 ReportPromise sheet before after r = Put (reportOf sheet) before after (wroteSays r)
 
--- ---- a list as it is written: how many of its sets follow its line, and that these lines are its part of the report
-unfoldable pub following : Struct → ℕ
-following r = cond (eqb (r .number) 0) (r .count) 0
-
-unfoldable pub listText : (name letter : List ℕ) → Struct → (sets : List ℕ) → List ℕ
-listText name letter r sets = listLine name (told r) ++ setLines letter sets
-
+-- a list's answer, with the sets that follow its line, comes to its part of the report
 pub record Part (name letter whole : List ℕ) (r : Struct) (sets : List ℕ) : Type 0 where
   pub few : following r ≤ 1024
   pub comes : listText name letter r (take (following r) sets) ≡ whole
-
--- the lines of the nodes and the verdict; and a report's three parts, one after the other
-unfoldable pub headText : (checked verdict : Struct) → List ℕ
-headText c v = nodesLine (told c) ++ verdictLine (told v)
-
-unfoldable pub allText : (checked verdict minimal : Struct) → (quorums : List ℕ) → (blocking : Struct) → (blocks : List ℕ) → List ℕ
-allText c v m quorums b blocks = headText c v ++ (listText word.minimal word.q m quorums ++ listText word.blocking word.b b blocks)

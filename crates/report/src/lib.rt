@@ -1,17 +1,15 @@
 // The report on a sheet, whole, in a lent buffer (document 01, 'The report program'). The program prints the same lines one by one.
 // A buffer that is too short must stay as it was, so the report is measured first.
 ghost use mathlib.Core.Path.{_≡_};
-ghost use mathlib.Core.List.{_++_};
-ghost use Prim.Native.Nat.{_+_, _*_, _≤_};
+ghost use Prim.Native.Nat.{_≤_};
 ghost use lib.ListN.{length};
-ghost use Rattle.decimal.specs.Bytes.{Written};
 ghost use Rattle.answers.specs.Said.{wroteSays};
 ghost use Rattle.replies.specs.Shows.{told};
 ghost use Rattle.sheets.specs.Promises.{Put};
 ghost use Rattle.fields.specs.Words as word;
-ghost use Rattle.fields.specs.Fields.{wordText, Counted};
-ghost use Rattle.report_lines.specs.Lines.{refusedLine, nodesLine, verdictLine, setLines};
-ghost use Rattle.report.specs.Report.{following as followingOf, headText, listText, allText, Part, minimalPart, blockingPart, reportOn, ReportPromise};
+ghost use Rattle.report_lines.specs.Lines.{refusedLine};
+ghost use Rattle.report_parts.specs.Parts.{following as followingOf, allText};
+ghost use Rattle.report.specs.Report.{Part, minimalPart, blockingPart, reportOn, ReportPromise};
 use answers::Read;
 use answers::Wrote;
 use fields::B;
@@ -49,93 +47,6 @@ pub fn following(r: Reply) -> usize
     0
 }
 
-// How many bytes the sets of a list take, a line for each behind the letter of the list.
-fn sets_len(letter: u64, sets: &[u64]) -> usize
-    requires { ⌜ length (now sets) ≤ 1024 ⌝ }
-    ensures { λ o. ⌜ Counted (setLines (wordText letter) (now (sets .entry))) (1092 * length (now (sets .entry))) o ⌝ }
-{
-    let mut total = 0;
-    let mut i = 0;
-    while i < sets.len() {
-        let line = report_lines::one(letter, sets[i]);
-        total += fields::line_len(&line);
-        i += 1;
-    }
-    total
-}
-
-// Those lines at the front of out, each into what is left of it.
-fn put_sets(out: &mut [u8], letter: u64, sets: &[u64]) -> usize
-    requires { ⌜ length (setLines (wordText letter) (now sets)) ≤ length (now out) ⌝ }
-    ensures { λ o. ⌜ Written (setLines (wordText letter) (now (sets .entry))) (now (out .entry)) (now (out .exit)) o ⌝ }
-{
-    let mut at = 0;
-    let mut i = 0;
-    while i < sets.len() {
-        let line = report_lines::one(letter, sets[i]);
-        at += fields::put_line(&mut out[at..], &line);
-        i += 1;
-    }
-    at
-}
-
-// How many bytes the lines of the nodes and the verdict take.
-fn head_len(c: Reply, v: Reply) -> usize
-    ensures { λ o. ⌜ Counted (headText c v) 2184 o ⌝ }
-{
-    let nodes = report_lines::nodes(c);
-    let verdict = report_lines::verdict(v);
-    fields::line_len(&nodes) + fields::line_len(&verdict)
-}
-
-// These two lines at the front of out.
-fn put_head(out: &mut [u8], c: Reply, v: Reply) -> usize
-    requires { ⌜ length (headText c v) ≤ length (now out) ⌝ }
-    ensures { λ o. ⌜ Written (headText c v) (now (out .entry)) (now (out .exit)) o ⌝ }
-{
-    let nodes = report_lines::nodes(c);
-    let verdict = report_lines::verdict(v);
-    let at = fields::put_line(out, &nodes);
-    at + fields::put_line(&mut out[at..], &verdict)
-}
-
-// How many bytes a list takes: its line, and the lines of its sets.
-fn list_len(name: u64, letter: u64, r: Reply, sets: &[u64]) -> usize
-    requires { ⌜ length (now sets) ≤ 1024 ⌝ }
-    ensures { λ o. ⌜ Counted (listText (wordText name) (wordText letter) r (now (sets .entry))) 1119300 o ⌝ }
-{
-    let line = report_lines::listed(name, r);
-    fields::line_len(&line) + sets_len(letter, sets)
-}
-
-// A list at the front of out.
-fn put_list(out: &mut [u8], name: u64, letter: u64, r: Reply, sets: &[u64]) -> usize
-    requires { ⌜ length (listText (wordText name) (wordText letter) r (now sets)) ≤ length (now out) ⌝ }
-    ensures { λ o. ⌜ Written (listText (wordText name) (wordText letter) r (now (sets .entry))) (now (out .entry)) (now (out .exit)) o ⌝ }
-{
-    let line = report_lines::listed(name, r);
-    let at = fields::put_line(out, &line);
-    at + put_sets(&mut out[at..], letter, sets)
-}
-
-// The three parts of a report at the front of out, each into what is left of it.
-fn put_parts(
-    out: &mut [u8],
-    c: Reply,
-    v: Reply,
-    m: Reply,
-    quorums: &[u64],
-    b: Reply,
-    blocks: &[u64],
-) -> usize
-    requires { ⌜ length (allText c v m (now quorums) b (now blocks)) ≤ length (now out) ⌝ }
-    ensures { λ o. ⌜ Written (allText c v m (now (quorums .entry)) b (now (blocks .entry))) (now (out .entry)) (now (out .exit)) o ⌝ }
-{
-    let head = put_head(out, c, v);
-    let at = head + put_list(&mut out[head..], MINIMAL, Q, m, quorums);
-    at + put_list(&mut out[at..], BLOCKING, B, b, blocks)
-}
-
 // The three parts of a report, if out has room for them.
 fn fill(
     out: &mut [u8],
@@ -149,13 +60,14 @@ fn fill(
     requires { ⌜ (length (now quorums) ≤ 1024) × (length (now blocks) ≤ 1024) ⌝ }
     ensures { λ o. ⌜ Put (allText c v m (now (quorums .entry)) b (now (blocks .entry))) (now (out .entry)) (now (out .exit)) (wroteSays o) ⌝ }
 {
-    let lists = list_len(MINIMAL, Q, m, quorums) + list_len(BLOCKING, B, b, blocks);
-    let need = head_len(c, v) + lists;
+    let lists = report_parts::list_len(MINIMAL, Q, m, quorums)
+        + report_parts::list_len(BLOCKING, B, b, blocks);
+    let need = report_parts::head_len(c, v) + lists;
     let count = need as u64;
     if out.len() < need {
         return Wrote::Short { count };
     }
-    put_parts(out, c, v, m, quorums, b, blocks);
+    report_parts::put_parts(out, c, v, m, quorums, b, blocks);
     Wrote::Bytes { count }
 }
 

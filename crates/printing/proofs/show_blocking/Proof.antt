@@ -9,7 +9,8 @@ use lib.ListN.{take, length-take}
 use lib.Seq.{length-take-le}
 use Rattle.fields.specs.Fields.{wordText}
 use Rattle.fields.specs.Words as word
-use Rattle.report.specs.Report.{listText, blockingPart}
+use Rattle.report_parts.specs.Parts.{listText}
+use Rattle.report.specs.Report.{blockingPart}
 use Rattle.printing.proofs.Laws.{stands-as, handed-as}
 use Rattle.printing.proofs.show_blocking.Statement.{statement}
 use Rattle.printing.proofs.show_blocking.Tie as tie

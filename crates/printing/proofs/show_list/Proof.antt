@@ -9,7 +9,8 @@ use lib.ListN.{length}
 use Rattle.fields.specs.Fields.{wordText}
 use Rattle.replies.specs.Shows.{told}
 use Rattle.report_lines.specs.Lines.{listLine, setLines}
-use Rattle.report.specs.Report.{listText, reportOn}
+use Rattle.report_parts.specs.Parts.{listText}
+use Rattle.report.specs.Report.{reportOn}
 use Rattle.printing.specs.Printing.{Stands}
 use Rattle.printing.proofs.Laws.{stands-as, stands-first, stands-second, handed-none, handed-up, handed-more, handed-as}
 use Rattle.printing.proofs.show_list.Statement.{statement}

@@ -9,7 +9,7 @@ use lib.ListN.{length, drop, getD}
 use Rattle.fields.specs.Fields.{wordText}
 use Rattle.report_lines.specs.Lines.{setLine, setLines}
 use Rattle.report.specs.Report.{reportOn}
-use Rattle.report.proofs.Sets.{next-set, length-next, no-set}
+use Rattle.report_parts.proofs.Sets.{next-set, length-next, no-set}
 use Rattle.printing.specs.Printing.{Stands, Handed}
 use Rattle.printing.proofs.Laws.{stands-as, stands-first, stands-second, handed-none, handed-up, handed-as}
 use Rattle.printing.proofs.show_sets.Statement.{statement}

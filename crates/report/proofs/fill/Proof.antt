@@ -10,7 +10,7 @@ use lib.ListN.{length, length-append}
 use Rattle.fields.specs.Fields.{wordText}
 use Rattle.fields.specs.Words as word
 use Rattle.sheets.proofs.Filling.{too-short, put}
-use Rattle.report.specs.Report.{headText, listText, allText}
+use Rattle.report_parts.specs.Parts.{headText, listText, allText}
 use Rattle.report.proofs.fill.Statement.{statement}
 use Rattle.report.proofs.fill.Tie as tie
 

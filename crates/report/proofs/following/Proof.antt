@@ -1,6 +1,6 @@
 -- The test is that of the definition.
 use borrow.Author.Tests.{eq-eqb, ne-eqb}
-use Rattle.report.specs.Report.{following}
+use Rattle.report_parts.specs.Parts.{following}
 use Rattle.report.proofs.following.Statement.{statement}
 use Rattle.report.proofs.following.Tie as tie
 

@@ -6,9 +6,9 @@ use mathlib.Core.Path.{ap}
 use lib.ListN.{length, length-append}
 use Rattle.replies.specs.Shows.{told}
 use Rattle.report_lines.specs.Lines.{nodesLine, verdictLine}
-use Rattle.report.specs.Report.{headText}
-use Rattle.report.proofs.head_len.Statement.{statement}
-use Rattle.report.proofs.head_len.Tie as tie
+use Rattle.report_parts.specs.Parts.{headText}
+use Rattle.report_parts.proofs.head_len.Statement.{statement}
+use Rattle.report_parts.proofs.head_len.Tie as tie
 
 nodes-requires : tie.Need-nodes-requires
 nodes-requires c κs = search needs

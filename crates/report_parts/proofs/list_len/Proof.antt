@@ -8,9 +8,9 @@ use lib.ListN.{length, length-append}
 use Rattle.replies.specs.Shows.{told}
 use Rattle.fields.specs.Fields.{wordText}
 use Rattle.report_lines.specs.Lines.{listLine, setLines}
-use Rattle.report.specs.Report.{listText}
-use Rattle.report.proofs.list_len.Statement.{statement}
-use Rattle.report.proofs.list_len.Tie as tie
+use Rattle.report_parts.specs.Parts.{listText}
+use Rattle.report_parts.proofs.list_len.Statement.{statement}
+use Rattle.report_parts.proofs.list_len.Tie as tie
 
 listed-requires : tie.Need-listed-requires
 listed-requires c κs = search needs

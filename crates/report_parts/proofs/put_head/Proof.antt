@@ -11,9 +11,9 @@ use Rattle.decimal.specs.Bytes.{Written}
 use Rattle.decimal.proofs.Place.{within, room, next}
 use Rattle.replies.specs.Shows.{told}
 use Rattle.report_lines.specs.Lines.{nodesLine, verdictLine}
-use Rattle.report.specs.Report.{headText}
-use Rattle.report.proofs.put_head.Statement.{statement}
-use Rattle.report.proofs.put_head.Tie as tie
+use Rattle.report_parts.specs.Parts.{headText}
+use Rattle.report_parts.proofs.put_head.Statement.{statement}
+use Rattle.report_parts.proofs.put_head.Tie as tie
 
 -- the two lines and their room
 abbrev first : tie.Start → List ℕ

@@ -12,9 +12,9 @@ use Rattle.decimal.proofs.Place.{within, room, next}
 use Rattle.replies.specs.Shows.{told}
 use Rattle.fields.specs.Fields.{wordText}
 use Rattle.report_lines.specs.Lines.{listLine, setLines}
-use Rattle.report.specs.Report.{listText}
-use Rattle.report.proofs.put_list.Statement.{statement}
-use Rattle.report.proofs.put_list.Tie as tie
+use Rattle.report_parts.specs.Parts.{listText}
+use Rattle.report_parts.proofs.put_list.Statement.{statement}
+use Rattle.report_parts.proofs.put_list.Tie as tie
 
 -- the line, the sets and their room
 abbrev first : tie.Start → List ℕ

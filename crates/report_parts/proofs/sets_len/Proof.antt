@@ -9,9 +9,9 @@ use denote.Ref.{now}
 use lib.ListN.{length, drop, getD}
 use Rattle.fields.specs.Fields.{wordText}
 use Rattle.report_lines.specs.Lines.{setLine, setLines}
-use Rattle.report.proofs.Sets.{length-next, no-set}
-use Rattle.report.proofs.sets_len.Statement.{statement}
-use Rattle.report.proofs.sets_len.Tie as tie
+use Rattle.report_parts.proofs.Sets.{length-next, no-set}
+use Rattle.report_parts.proofs.sets_len.Statement.{statement}
+use Rattle.report_parts.proofs.sets_len.Tie as tie
 
 record Sofar (letter : ℕ) (sets : List ℕ) (total i : ℕ) : Type 0 where
   place : i ≤ length sets

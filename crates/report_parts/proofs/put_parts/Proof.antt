@@ -11,9 +11,9 @@ use Rattle.decimal.specs.Bytes.{Written}
 use Rattle.decimal.proofs.Place.{within, room, next}
 use Rattle.fields.specs.Fields.{wordText}
 use Rattle.fields.specs.Words as word
-use Rattle.report.specs.Report.{headText, listText, allText}
-use Rattle.report.proofs.put_parts.Statement.{statement}
-use Rattle.report.proofs.put_parts.Tie as tie
+use Rattle.report_parts.specs.Parts.{headText, listText, allText}
+use Rattle.report_parts.proofs.put_parts.Statement.{statement}
+use Rattle.report_parts.proofs.put_parts.Tie as tie
 
 -- the parts and their room
 abbrev first : tie.Start → List ℕ

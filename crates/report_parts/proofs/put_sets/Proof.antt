@@ -11,9 +11,9 @@ use Rattle.decimal.specs.Bytes.{Written}
 use Rattle.decimal.proofs.Place.{within, room, next, length-front}
 use Rattle.fields.specs.Fields.{wordText}
 use Rattle.report_lines.specs.Lines.{setLine, setLines}
-use Rattle.report.proofs.Sets.{next-set, length-next, no-set}
-use Rattle.report.proofs.put_sets.Statement.{statement}
-use Rattle.report.proofs.put_sets.Tie as tie
+use Rattle.report_parts.proofs.Sets.{next-set, length-next, no-set}
+use Rattle.report_parts.proofs.put_sets.Statement.{statement}
+use Rattle.report_parts.proofs.put_sets.Tie as tie
 
 record Sofar (before : List ℕ) (letter : ℕ) (sets after : List ℕ) (at i : ℕ) : Type 0 where
   place : i ≤ length sets
