@@ -1,6 +1,6 @@
 /* Breezedrum: a proved checker of trust sheets. The C interface of its static library.
  *
- * Every function takes any input, comes to an end, and answers a struct: the number of document 01's table, and its fields, 0 where a
+ * Every function takes any input, comes to an end, and answers a struct: the number of the table below, and its fields, 0 where a
  * number does not name a field. A number above 0 leaves every lent buffer as it was; an answer (number 0) writes only its own words or
  * bytes at the front. A table is a list of 64-bit words, two a record; a set of nodes is a mask, node i having the value 2^i.
  *

@@ -8,7 +8,7 @@
     print(reply.yes)                       # False
     print(breezedrum.ids(reply.first))     # {2, 3}
 
-Every operation answers a `Reply`: the number of document 01's table and its fields, 0 where the number does not name a field. What an
+Every operation answers a `Reply`: the number (SPECIFICATION 7) and its fields, 0 where the number does not name a field. What an
 answer wrote stands in `words` (a table's words, or sets as masks) or in `text`.
 
 A set of nodes is given as node ids (`{0, 2}`, `[0, 2]`, `()`) or as a mask (`5`), as you like; answers hold masks, and `ids` and `shown`

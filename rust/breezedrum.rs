@@ -1,6 +1,6 @@
 //! Breezedrum from Rust: safe functions over the static library (`rt staticlib interface`). Every function takes any input; an answer is a
-//! `Reply`, the number of document 01's table and its fields, 0 where the number does not name a field. A number above 0 leaves every
-//! lent buffer as it was.
+//! `Reply`, the number (SPECIFICATION 7) and its fields, 0 where the number does not name a field. A number above 0 leaves every lent
+//! buffer as it was.
 
 #[repr(C)]
 #[derive(Clone, Copy, Debug, Default, PartialEq, Eq)]

@@ -1,4 +1,4 @@
--- Document 01, 'Numbers given back': the number and the values of each case of each answer.
+-- SPECIFICATION 7: the number and the values of each case of each answer.
 use mathlib.Core.List.{[], _∷_}
 use Rattle.meanings.specs.Replies.{Reply, reply, _is_, Place, Nodes, Records, Answer, Set, Rounds, First, Second, Count, Visits}
 use Rattle.answers.specs.declared.Fault.{Fault}

@@ -1,5 +1,5 @@
-// What the operations answer. An answer is an enum; specs/Said.antt sets out document 01's number and values for each of its
-// cases, and proofs/Exact.antt shows that no two answers say the same.
+// What the operations answer. An answer is an enum; specs/Said.antt sets out the number and values (SPECIFICATION 7) of each of its cases,
+// and proofs/Exact.antt shows that no two answers say the same.
 
 // Numbers 1 to 7: why a table is turned away, with the place.
 pub enum Fault {

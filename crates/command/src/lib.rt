@@ -1,5 +1,5 @@
-// What the report program does (document 01, 'The report program'). It is a library function, so that programs with other stored runs
-// are the same program: a program has one run in the gate.
+// What the report program does (SPECIFICATION 9). It is a library function, so that programs with other stored runs are the same program: a
+// program has one run in the gate.
 use input::Got;
 use libc::STDERR_FILENO;
 use libc::STDIN_FILENO;

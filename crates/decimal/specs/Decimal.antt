@@ -1,4 +1,4 @@
--- Decimal numbers without leading zeros (document 01, "The trust sheet").
+-- Decimal numbers without leading zeros (SPECIFICATION 2).
 use Prim.Native.Nat.{ℕ, zero, suc, _+_, _-_, _*_, _/_, _%_}
 use mathlib.Core.Bool.{true, false, cond}
 use mathlib.Core.List.{List, [], _∷_, _++_}

@@ -1,4 +1,4 @@
-// Decimal numbers without leading zeros: read up to 255, written up to 2^64 - 1 (document 01, "The trust sheet").
+// Decimal numbers without leading zeros: read up to 255, written up to 2^64 - 1 (SPECIFICATION 2).
 ghost use mathlib.Core.Path.{_≡_};
 ghost use Prim.Native.Nat.{_≤_};
 ghost use lib.ListN.{length, getD};

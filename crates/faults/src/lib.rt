@@ -1,5 +1,5 @@
-// Is this list of words a packed table? Document 01, 'The packed table' (bounds) and 'Numbers given back', numbers 1 to 7. Every question
-// opens with it: a fault is handed on (`fault_of`), and then its sets must lie within the nodes (`inside`), or the number is 8.
+// Is this list of words a packed table? SPECIFICATION 1 and 7, numbers 1 to 7. Every question opens with it: a fault is handed on
+// (`fault_of`), and then its sets must lie within the nodes (`inside`), or the number is 8.
 // Two passes over the records: the first finds any of 2 to 5 and counts the nodes, the second finds 6 or 7. A record's inner sets
 // are counted by walking the run of deeper records after it, so each record is walked by those above it, three at most.
 ghost use mathlib.Core.Path.{_≡_};

@@ -1,6 +1,6 @@
 // What lasts of a set of nodes: the greatest quorum within it, found by striking the unsatisfied nodes one after another, each with those
-// alike, and judging only the nodes that are due, which may have lost something. In which order nodes are struck alters nothing; the
-// rounds of document 01, which are counted, lie with `rounds`.
+// alike, and judging only the nodes that are due, which may have lost something. In which order nodes are struck alters nothing; the rounds
+// that are counted (SPECIFICATION 3) lie with `rounds`.
 ghost use mathlib.Core.Path.{_≡_};
 ghost use mathlib.Core.Bool.{true};
 ghost use Prim.Native.Nat.{ℕ, _+_, _*_, _<_, _^_};

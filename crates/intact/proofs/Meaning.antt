@@ -49,7 +49,7 @@ too-late allowance (intactAre q k) l = rw (zero-add k, lt-leb k allowance l)
 too-late allowance (divided p k) l = rw (zero-add k, lt-leb k allowance l)
 too-late allowance (stuckAfter k) l = rw (zero-add k, lt-leb k allowance l)
 
--- the enum says what the paper's reply says
+-- the enum says what the reply says
 pub says-within : (allowance : ℕ) (e : Ended) → intactSays (within allowance 0 e) ≡ replySays allowance e
 says-within allowance e =
     ⊎-elim (λ l. ap intactSays (in-time allowance e l) ∙ early e l) (λ l. ap intactSays (too-late allowance e l) ∙ late e l) (le-or-lt (visitsOf e) allowance)

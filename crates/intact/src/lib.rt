@@ -1,5 +1,5 @@
-// Who is intact, for a set of ill nodes? The rounds that find the intact nodes (document 01, 'The search trees', Intact), within an
-// allowance of visits that serves all their verdicts in turn.
+// Who is intact, for a set of ill nodes? The rounds that find the intact nodes (SPECIFICATION 6), within an allowance of visits that serves
+// all their verdicts in turn.
 ghost use mathlib.Core.Path.{_≡_};
 ghost use mathlib.Core.Bool.{true};
 ghost use Prim.Native.Nat.{suc, _<_, _^_};

@@ -1,5 +1,5 @@
-// The C interface, for technicians: every public operation under a C name. A function takes what the operation takes and no more; an answer is
-// one struct with the number, the place and the fields of document 01's table, 0 where a field is not named.
+// The C interface, for technicians: every public operation under a C name. A function takes what the operation takes and no more; an answer
+// is one struct with the number, the place and the fields of SPECIFICATION 7, 0 where a field is not named.
 ghost use Rattle.meanings.specs.Of as of;
 ghost use Rattle.meanings.specs.Questions.{checkReply, quorumReply, greatestReply, blocksReply, verdictReply, minimalReply, blockingReply, intactReply};
 ghost use lib.ListN.{length};

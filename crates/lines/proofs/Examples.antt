@@ -1,4 +1,4 @@
--- Document 01's lines, and lines on both sides of each rule, read by the definition. Each is a computation.
+-- Lines of the worked points and on both sides of each rule, read by the definition. Each is a computation.
 use Prim.Native.Nat.{_-_, _^_}
 use mathlib.Core.Path.{_≡_, refl}
 use mathlib.Core.List.{[], _∷_}
@@ -63,7 +63,7 @@ read =
       nothing = refl;
     }
 
--- the longest line is as long as document 01 says
+-- the longest line, as SPECIFICATION 2 has it
 pub longest : length (lineText 3 255 (2 ^ 64 - 1)) ≡ 188
 unfolding lineText fieldText lastText memberText withCommas nodesFrom numeral digits
 longest = refl

@@ -1,4 +1,4 @@
--- The lines of a trust sheet (document 01, "The trust sheet"): level, threshold and members, parted by one tab and ended by LF.
+-- The lines of a trust sheet (SPECIFICATION 2): level, threshold and members, parted by one tab and ended by LF.
 use Prim.Native.Nat.{ℕ, _+_}
 use mathlib.Core.Bool.{cond}
 use mathlib.Core.List.{List, [], _∷_, _++_}

@@ -1,4 +1,4 @@
-// Lines of a trust sheet: level, tab, threshold, tab, members, LF (document 01, "The trust sheet").
+// Lines of a trust sheet: level, tab, threshold, tab, members, LF (SPECIFICATION 2).
 ghost use mathlib.Core.Path.{_≡_};
 ghost use Prim.Native.Nat.{_≤_};
 ghost use lib.ListN.{length, drop};

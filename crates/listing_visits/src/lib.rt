@@ -1,7 +1,7 @@
-// What a visit of a listing search comes to, and the visits below it: document 01, 'The search trees', the minimal quorums and the blocking
-// sets. The two trees differ in when a visit is a leaf and which nodes it may split on. The test of minimality is the same for both,
-// and is made only where a set would be listed: a set is minimal when none of its nodes can be spared. In a visit of the tree of blocking
-// sets g is the greatest quorum outside c, and a node is due that is new outside c and r.
+// What a visit of a listing search comes to, and the visits below it: SPECIFICATION 5, the minimal quorums and the blocking sets. The two
+// trees differ in when a visit is a leaf and which nodes it may split on. The test of minimality is the same for both, and is made only
+// where a set would be listed: a set is minimal when none of its nodes can be spared. In a visit of the tree of blocking sets g is the
+// greatest quorum outside c, and a node is due that is new outside c and r.
 ghost use mathlib.Core.Path.{_≡_};
 ghost use mathlib.Core.Bool.{true};
 ghost use Rattle.meanings.specs.Of as of;

@@ -1,5 +1,5 @@
-// Walking a listing tree within an allowance: document 01, 'The search trees'. One walk serves both trees. It counts every listed set, and
-// writes it where there is a place for it; visits spent are handed along, so that a refusal is handed back unchanged.
+// Walking a listing tree within an allowance: SPECIFICATION 5. One walk serves both trees. It counts every listed set, and writes it where
+// there is a place for it; visits spent are handed along, so that a refusal is handed back unchanged.
 ghost use mathlib.Core.Path.{_≡_};
 ghost use lib.ListN.{set};
 ghost use Rattle.meanings.specs.Table.{nodes, satisfied};

@@ -1,6 +1,5 @@
-// The minimal quorums and the minimal blocking sets: document 01, 'The search trees' and 'Numbers given back'. A refusal must leave the lent
-// list untouched, so the first walk writes into a list of its own; only where that is too short and the lent one is not is the tree
-// walked for a second time.
+// The minimal quorums and the minimal blocking sets: SPECIFICATION 5 and 7. A refusal must leave the lent list untouched, so the first walk
+// writes into a list of its own; only where that is too short and the lent one is not is the tree walked for a second time.
 ghost use mathlib.Core.Path.{_≡_};
 ghost use mathlib.Core.List.{_++_};
 ghost use Prim.Native.Nat.{_≤_};

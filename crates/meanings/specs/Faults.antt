@@ -1,4 +1,4 @@
--- Document 01, 'The packed table' (bounds) and 'Numbers given back': numbers 1 to 7, by which a table is turned away.
+-- SPECIFICATION 1 and 7: numbers 1 to 7, by which a table is turned away.
 use mathlib.Core.Bool.{Bool, true, false, not, _&&_, _||_}
 use mathlib.Core.List.{List, [], _∷_}
 use Prim.Native.Nat.{ℕ, zero, suc, _%_}

@@ -1,5 +1,4 @@
--- Document 01, 'The search trees', last paragraph: the rounds that find the intact nodes, and the sum of their visits. Which
--- nodes are intact stands in Quorums.
+-- SPECIFICATION 6: the rounds that find the intact nodes, and the sum of their visits. Which nodes are intact stands in Quorums.
 use mathlib.Core.Bool.{Bool, true, false}
 use Prim.Native.Nat.{ℕ, zero, suc, _+_}
 use Rattle.sets.specs.Sets.{nobody, everyone, _∩_, _∖_, empty}

@@ -1,4 +1,4 @@
--- Document 01, 'Both sides of the line': P1 to P11, as a single table under a single claim, and further rows beside it.
+-- SPECIFICATION 10: P1 to P11, as a single table under a single claim.
 use mathlib.Core.Path.{refl}
 use mathlib.Core.List.{List, [], _∷_}
 use Prim.Native.Nat.{ℕ}

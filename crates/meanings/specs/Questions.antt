@@ -1,4 +1,4 @@
--- Document 01: what each operation answers, for any list of words, sets, node number, allowance and room.
+-- SPECIFICATION 8: what each operation answers, for any list of words, sets, node number, allowance and room.
 -- Order: the table's numbers 1 to 7; 8; then 9, 11 and 13 as the search meets them; 10 last.
 use mathlib.Core.Bool.{Bool, true, false, cond}
 use mathlib.Core.List.{List, [], _∷_}

@@ -1,6 +1,6 @@
--- Document 01, 'Meanings': quorums and what is asked of them, over n nodes and any satisfaction s, where s u v says that the
--- set u satisfies the quorum set of node v. Nothing here knows of tables, and nothing of how an answer is found:
--- each subset of the nodes is held against each other subset.
+-- SPECIFICATION 3: quorums and what is asked of them, over n nodes and any satisfaction s, where s u v says that the set u satisfies the
+-- quorum set of node v. Nothing here knows of tables, and nothing of how an answer is found: each subset of the nodes is held against each
+-- other subset.
 use mathlib.Core.Bool.{Bool, not, _&&_, _||_}
 use mathlib.Core.List.{List, [], foldr}
 use Prim.Native.Nat.{ℕ}

@@ -1,4 +1,4 @@
--- Document 01, 'Numbers given back': what an operation answers, and what it leaves in a lent buffer.
+-- SPECIFICATION 7: what an operation answers, and what it leaves in a lent buffer.
 use mathlib.Core.Path.{_≡_, sym, _∙_}
 use mathlib.Core.Bool.{true, false}
 use mathlib.Core.List.{List, [], _∷_, _++_}
@@ -19,7 +19,7 @@ pub record Named : Type 0 where
 abbrev pub _is_ : Field → ℕ → Named
 f is x = record { field = f; value = x }
 
--- A reply: its number, and the fields that the paper names for it.
+-- A reply: its number, and the fields that are named for it.
 pub record Reply : Type 0 where
   pub number : ℕ
   pub names : List Named

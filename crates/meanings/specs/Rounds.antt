@@ -1,4 +1,4 @@
--- Document 01, 'Meanings': the rounds that come with the greatest quorum.
+-- SPECIFICATION 3: the rounds that come with the greatest quorum.
 use mathlib.Core.Bool.{Bool, true, false, _&&_, _||_}
 use Prim.Native.Nat.{ℕ, zero, suc}
 use lib.Dec.{eqb}

@@ -1,4 +1,4 @@
--- A row of document 01's table of points: a table, a question and its answer; and what it is for a row to hold.
+-- A row of SPECIFICATION 10: a table, a question and its answer; and what it is for a row to hold.
 use mathlib.Core.Path.{_≡_}
 use mathlib.Core.Bool.{Bool, not, cond}
 use mathlib.Core.List.{List, [], _∷_, map, foldr}

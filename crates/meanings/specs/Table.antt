@@ -1,4 +1,4 @@
--- Document 01, 'The packed table' and the first of its 'Meanings'.
+-- SPECIFICATION 1, and of 3 what it is to satisfy a quorum set.
 -- A table is a list of words, two a record: the control word, threshold + 256 x level, and the member mask.
 use mathlib.Core.Bool.{Bool, not, _&&_}
 use mathlib.Core.List.{List, []}

@@ -1,4 +1,4 @@
--- Document 01, 'The search trees': which visits a search makes. What an answer means stands in Quorums, which knows no tree.
+-- SPECIFICATION 5: which visits a search makes. What an answer means stands in Quorums, which knows no tree.
 use mathlib.Core.Bool.{Bool, true, false, not, _||_}
 use mathlib.Core.List.{List, [], _∷_, _++_}
 use Prim.Native.Nat.{ℕ, zero, suc, _+_, _/_}

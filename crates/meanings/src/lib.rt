@@ -1,1 +1,1 @@
-// The meanings of document 01 stand in specs/. This crate has no code of its own.
+// SPECIFICATION's meanings stand in specs/. This crate has no code of its own.

@@ -1,4 +1,4 @@
--- Member lists (document 01, "The trust sheet"): ids in rising order with commas, no repeats; a lone `-` means no members.
+-- Member lists (SPECIFICATION 2): ids in rising order with commas, no repeats; a lone `-` means no members.
 -- A set of nodes is a number below 2^64, in which node i has the value 2^i.
 use Prim.Native.Nat.{ℕ, zero, suc, _+_, _/_, _%_, _^_}
 use mathlib.Core.Bool.{true, false, cond}

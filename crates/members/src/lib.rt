@@ -1,4 +1,4 @@
-// Member lists: ids in rising order with commas, or a lone hyphen for no members (document 01, "The trust sheet").
+// Member lists: ids in rising order with commas, or a lone hyphen for no members (SPECIFICATION 2).
 // A set of nodes is a 64-bit mask, in which node i has the value 2^i.
 ghost use mathlib.Core.Path.{_≡_};
 ghost use Prim.Native.Nat.{_≤_, _<_, _^_};

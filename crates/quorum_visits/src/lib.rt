@@ -1,6 +1,6 @@
-// A visit of the tree of the verdict or of the minimal quorums (document 01, 'The search trees'), and what it hands to the two visits below
-// it, so that nothing is judged twice: without the node that is split on, only what that node touches is judged again; with it, the
-// greatest quorum in reach is the same, and only chosen nodes that are due are judged.
+// A visit of the tree of the verdict or of the minimal quorums (SPECIFICATION 5), and what it hands to the two visits below it, so that
+// nothing is judged twice: without the node that is split on, only what that node touches is judged again; with it, the greatest quorum in
+// reach is the same, and only chosen nodes that are due are judged.
 ghost use mathlib.Core.Path.{_≡_};
 ghost use Prim.Native.Nat.{_<_, _^_};
 ghost use Rattle.sets.specs.Sets.{only, _∪_, _∖_};

@@ -1,5 +1,5 @@
-// Questions about one set of nodes (document 01, 'Meanings'): is it a quorum, what is the greatest quorum within it, does it block a
-// node? Any list of words may be asked about: the numbers 1 to 7 of its table come first, then 8, then the answer.
+// Questions about one set of nodes (SPECIFICATION 3): is it a quorum, what is the greatest quorum within it, does it block a node? Any list
+// of words may be asked about: the numbers 1 to 7 of its table come first, then 8, then the answer.
 ghost use mathlib.Core.Path.{_≡_};
 ghost use mathlib.Core.Bool.{true};
 ghost use Prim.Native.Nat.{_<_};

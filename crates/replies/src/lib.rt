@@ -1,5 +1,5 @@
-// A reply as a plain struct: the number and the fields of document 01's table, for a caller in C and for the lines of the report. One
-// function for each answer enum makes it.
+// A reply as a plain struct: the number and the fields of SPECIFICATION 7, for a caller in C and for the lines of the report. One function
+// for each answer enum makes it.
 ghost use mathlib.Core.List.{[], _∷_};
 ghost use Rattle.meanings.specs.Replies.{reply, _is_, Place, Nodes, Records, Answer, Set, Rounds, First, Second, Count, Visits};
 ghost use Rattle.answers.specs.Said.{faultSays, checkedSays, readSays, wroteSays, judgedSays, greatestSays, verdictSays, listedSays, intactSays};

@@ -1,4 +1,4 @@
--- Document 01's report, and a line of each other form, by the definitions alone. Each is a computation.
+-- Trio's report, and a line of each other form, by the definitions alone. Each is a computation.
 use Prim.Native.Nat.{ℕ}
 use mathlib.Core.Path.{_≡_, refl}
 use mathlib.Core.List.{List, [], _∷_}
@@ -20,7 +20,7 @@ trioSheet =
     ∷ 48 ∷ 9 ∷ 50 ∷ 9 ∷ 48 ∷ 44 ∷ 49 ∷ 44 ∷ 50 ∷ 10
     ∷ 48 ∷ 9 ∷ 50 ∷ 9 ∷ 48 ∷ 44 ∷ 49 ∷ 44 ∷ 50 ∷ 10 ∷ []
 
--- as document 01 prints it
+-- as SPECIFICATION 10 has it
 abbrev pub trioReport : List ℕ
 trioReport =
     110 ∷ 111 ∷ 100 ∷ 101 ∷ 115 ∷ 9 ∷ 51 ∷ 9 ∷ 115 ∷ 101 ∷ 116 ∷ 115 ∷ 9 ∷ 51 ∷ 10

@@ -1,4 +1,4 @@
--- Document 01, 'The report program': what the whole report of a sheet is, and what the operation that writes it promises.
+-- SPECIFICATION 9: what the whole report of a sheet is, and what the operation that writes it promises.
 use Prim.Native.Nat.{ℕ, _≤_}
 use mathlib.Core.Path.{_≡_}
 use mathlib.Core.Bool.{cond}

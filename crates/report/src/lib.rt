@@ -1,4 +1,4 @@
-// The report on a sheet, whole, in a lent buffer (document 01, 'The report program'). The program prints the same lines one by one.
+// The report on a sheet, whole, in a lent buffer (SPECIFICATION 9). The program prints the same lines one by one.
 // A buffer that is too short must stay as it was, so the report is measured first.
 ghost use mathlib.Core.Path.{_≡_};
 ghost use Prim.Native.Nat.{_≤_};

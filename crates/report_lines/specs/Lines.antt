@@ -1,4 +1,4 @@
--- Document 01, 'The report program': what each line of the report is, to the byte, as a function of what was answered.
+-- SPECIFICATION 9: what each line of the report is, to the byte, as a function of what was answered.
 use Prim.Native.Nat.{ℕ}
 use mathlib.Core.Path.{_≡_}
 use mathlib.Core.Bool.{cond}

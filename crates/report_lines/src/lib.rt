@@ -1,4 +1,4 @@
-// The lines of the report (document 01, 'The report program'): each is one list of fields, made of what an answer says. `fields` writes it.
+// The lines of the report (SPECIFICATION 9): each is one list of fields, made of what an answer says. `fields` writes it.
 ghost use mathlib.Core.Path.{_≡_};
 ghost use Rattle.replies.specs.Shows.{told};
 ghost use Rattle.fields.specs.Fields.{wordText};

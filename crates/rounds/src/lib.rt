@@ -1,5 +1,5 @@
-// The greatest quorum within a set, by rounds (document 01, 'Meanings'): a round drops, all at once, every node that those present, with
-// the nodes counted out added, do not satisfy.
+// The greatest quorum within a set, by rounds (SPECIFICATION 3): a round drops, all at once, every node that those present, with the nodes
+// counted out added, do not satisfy.
 ghost use mathlib.Core.Path.{_≡_};
 ghost use Prim.Native.Nat.{_<_};
 ghost use Rattle.sets.specs.Sets.{each};

@@ -1,5 +1,5 @@
-// Judging a quorum set (document 01, 'Meanings'): does a set of nodes satisfy it? An inner set is judged the same way, down to the last
-// level. The records of the table are sound.
+// Judging a quorum set (SPECIFICATION 3): does a set of nodes satisfy it? An inner set is judged the same way, down to the last level. The
+// records of the table are sound.
 ghost use mathlib.Core.Path.{_≡_};
 ghost use Prim.Native.Nat.{_-_, _<_, _≤_, _^_};
 ghost use mathlib.Core.Bool.{false};

@@ -1,5 +1,5 @@
 -- Sets of nodes. A set is written as a number: node i is in it where digit i, of value 2 ^ i, is 1.
--- That it is a number shows here and nowhere else: all that follows goes by these operations.
+-- The meanings go by these operations alone; words, texts and bounds show that it is a number.
 use mathlib.Core.Bool.{Bool, true, false, not, _&&_}
 use Prim.Native.Nat.{ℕ, zero, suc, _+_, _-_, _/_, _%_, _^_}
 use lib.Dec.{eqb}

@@ -1,4 +1,4 @@
--- Document 01's Trio as a sheet, and sheets on both sides of each rule of reading. Each is a computation.
+-- Trio as a sheet, and sheets on both sides of each rule of reading. Each is a computation.
 use Prim.Native.Nat.{ℕ}
 use mathlib.Core.Path.{_≡_, refl}
 use mathlib.Core.List.{List, [], _∷_, _++_}

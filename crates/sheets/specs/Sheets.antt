@@ -1,4 +1,4 @@
--- Document 01, 'The trust sheet' and 'Numbers given back': the text of a table, and what a sheet's lines come to.
+-- SPECIFICATION 2 and 7: the text of a table, and what a sheet's lines come to.
 use Prim.Native.Nat.{ℕ, zero, suc, _+_, _*_, _/_, _%_}
 use mathlib.Core.Bool.{cond}
 use mathlib.Core.List.{List, [], _∷_, _++_}

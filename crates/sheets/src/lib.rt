@@ -1,6 +1,5 @@
-// Trust sheets: a sheet is read into a lent table, and a table is written as a sheet (document 01, 'The trust sheet' and 'Numbers
-// given back'). A refusal leaves what was lent untouched: lines are read into words of the reader's own, and a writer knows the length
-// of the whole text before it writes.
+// Trust sheets: a sheet is read into a lent table, and a table is written as a sheet (SPECIFICATION 2 and 7). A refusal leaves what was
+// lent untouched: lines are read into words of the reader's own, and a writer knows the length of the whole text before it writes.
 ghost use mathlib.Core.Path.{_≡_};
 ghost use Prim.Native.Nat.{_≤_};
 ghost use lib.ListN.{length};

@@ -1,5 +1,5 @@
--- Document 01, 'Both sides of the line', at full size: 64 nodes pass and 65 give 4; 256 records pass and 257 give 1. Each row is computed
--- from the definitions, like the rows beside P1 to P11; they stand here since the largest takes seconds.
+-- SPECIFICATION 10, at full size: 64 nodes pass and 65 give 4; 256 records pass and 257 give 1. Each row is computed from the definitions,
+-- like the rows beside P1 to P11; they stand here since the largest takes seconds.
 use mathlib.Core.Path.{refl}
 use mathlib.Core.List.{List, [], _∷_, _++_}
 use Prim.Native.Nat.{ℕ, zero, suc}

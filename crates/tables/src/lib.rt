@@ -1,5 +1,4 @@
-// The packed table (document 01, 'The packed table'): reading a record, and finding the records that open the nodes. Records are
-// counted from 0.
+// The packed table (SPECIFICATION 1): reading a record, and finding the records that open the nodes. Records are counted from 0.
 ghost use mathlib.Core.Path.{_≡_};
 ghost use Prim.Native.Nat.{_+_, _*_, _<_, _≤_, _^_};
 ghost use lib.ListN.{length};

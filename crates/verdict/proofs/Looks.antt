@@ -1,4 +1,4 @@
--- What a visit comes to, step by step of document 01: each way out of the steps before the split settles the walk below the visit.
+-- What a visit comes to, step by step: each way out of the steps before the split settles the walk below the visit.
 use mathlib.Core.Path.{_≡_, sym, ap, ap₂, _∙_, subst}
 use mathlib.Core.Bool.{Bool, true, false}
 use mathlib.Core.List.{List}

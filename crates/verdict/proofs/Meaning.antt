@@ -42,7 +42,7 @@ too-late allowance (missed k) l = rw (zero-add k, lt-leb k allowance l)
 too-late allowance (hit p k) l = rw (zero-add k, lt-leb k allowance l)
 too-late allowance (stuck k) l = rw (zero-add k, lt-leb k allowance l)
 
--- the enum says what the paper's reply says
+-- the enum says what the reply says
 pub says-within : (allowance : ℕ) (w : Walk Pair) → verdictSays (within allowance 0 w) ≡ replySays allowance w
 says-within allowance w = ⊎-elim early late (le-or-lt (count w) allowance)
   where

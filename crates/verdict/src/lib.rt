@@ -1,5 +1,4 @@
-// Do all quorums intersect? The search for two quorums with no node in common (document 01, 'The search trees', Verdict), within an
-// allowance of visits.
+// Do all quorums intersect? The search for two quorums with no node in common (SPECIFICATION 5), within an allowance of visits.
 ghost use mathlib.Core.Path.{_≡_};
 ghost use Rattle.meanings.specs.Of as of;
 ghost use Rattle.verdict.specs.Search.{Visiting, Looked, within, treeOf};
