@@ -4,13 +4,9 @@ ghost use mathlib.Core.Path.{_≡_};
 ghost use mathlib.Core.List.{_++_};
 ghost use Prim.Native.Nat.{_≤_};
 ghost use lib.ListN.{length, take, drop};
-ghost use Rattle.meanings.specs.Faults.{check};
-ghost use Rattle.meanings.specs.Trees.{list};
-ghost use Rattle.meanings.specs.Replies.{Lent};
-ghost use Rattle.meanings.specs.Questions.{onCheck, listSays, listPuts};
-ghost use Rattle.answers.specs.Said.{listedSays};
+ghost use Rattle.meanings.specs.Faults.{check, sound};
 ghost use Rattle.listing_visits.specs.Visits.{Ground};
-ghost use Rattle.lists.specs.Lists.{ListsMinimal, ListsBlocking, treeOf};
+ghost use Rattle.lists.specs.Lists.{ListsMinimal, ListsBlocking, Walks};
 use answers::Checked;
 use answers::Listed;
 use listing_visits::Sought;
@@ -31,7 +27,7 @@ fn copy(from: &[u64], to: &mut [u64], count: usize)
 // Walks a whole tree; 9 and 13 come from the walk, 10 after it, and only then is the lent list written.
 fn fill(t: &[u64], plan: &[u64], s: Search, lent: &mut [u64]) -> Listed
     requires { ⌜ Ground (now t) (now plan) (s .all) ⌝ }
-    ensures { λ o. ⌜ Lent (listedSays o) (listSays (s .allowance) (length (now (lent .entry))) (list (treeOf (now (t .entry)) (s .sought)))) (listPuts (list (treeOf (now (t .entry)) (s .sought)))) (now (lent .entry)) (now (lent .exit)) ⌝ }
+    ensures { λ o. ⌜ Walks sound (now (t .entry)) (s .sought) (s .allowance) (now (lent .entry)) (now (lent .exit)) o ⌝ }
 {
     let sought = s.sought;
     let root = listing_visits::root(t, plan, sought, s.all);
@@ -52,7 +48,7 @@ fn fill(t: &[u64], plan: &[u64], s: Search, lent: &mut [u64]) -> Listed
 
 // Numbers 1 to 7 come first; the plan of a sound table is found once for the whole search.
 fn answer(table: &[u64], sought: Sought, allowance: u64, lent: &mut [u64]) -> Listed
-    ensures { λ o. ⌜ Lent (listedSays o) (onCheck (check (now (table .entry))) (listSays allowance (length (now (lent .entry))) (list (treeOf (now (table .entry)) sought)))) (listPuts (list (treeOf (now (table .entry)) sought))) (now (lent .entry)) (now (lent .exit)) ⌝ }
+    ensures { λ o. ⌜ Walks (check (now (table .entry))) (now (table .entry)) sought allowance (now (lent .entry)) (now (lent .exit)) o ⌝ }
 {
     let checked = faults::check_table(table);
     let Checked::Sound { nodes, records: _ } = checked else {

@@ -4,8 +4,7 @@ ghost use mathlib.Core.Path.{_≡_};
 ghost use Prim.Native.Nat.{_<_};
 ghost use Rattle.sets.specs.Sets.{each};
 ghost use Rattle.meanings.specs.Table.{nodes as nodesOf, satisfied as satisfiedIs};
-ghost use Rattle.meanings.specs.Quorums.{greatest, quorum as quorumIs};
-ghost use Rattle.meanings.specs.Rounds.{rounds as roundsOf};
+ghost use Rattle.meanings.specs.Of as of;
 ghost use Rattle.tables.specs.Heads.{Headed};
 ghost use Rattle.rounds.specs.Rounds.{Ground};
 
@@ -25,7 +24,7 @@ pub fn satisfied(t: &[u64], heads: &[u64], with: u64, v: u64) -> bool
 // The greatest quorum within u with d counted out, and its rounds. A round that is not the last drops a node, so the rounds end.
 pub fn survivors(t: &[u64], heads: &[u64], nodes: u64, d: u64, u: u64) -> Left
     requires { ⌜ Ground (now t) (now heads) nodes u ⌝ }
-    ensures { λ o. ⌜ (o .set ≡ greatest (nodesOf (now (t .entry))) (satisfiedIs (now (t .entry))) d u) × (o .rounds ≡ roundsOf (nodesOf (now (t .entry))) (satisfiedIs (now (t .entry))) d u) ⌝ }
+    ensures { λ o. ⌜ (o .set ≡ of.greatest (now (t .entry)) d u) × (o .rounds ≡ of.rounds (now (t .entry)) d u) ⌝ }
 {
     let mut present = sets::without(u, d);
     let mut count = 0u64;
@@ -74,7 +73,7 @@ fn settled(t: &[u64], heads: &[u64], nodes: u64, with: u64, c: u64) -> bool
 // Whether c is a quorum with d counted out.
 pub fn quorum(t: &[u64], heads: &[u64], nodes: u64, d: u64, c: u64) -> bool
     requires { ⌜ Ground (now t) (now heads) nodes c ⌝ }
-    ensures { λ o. ⌜ o ≡ quorumIs (nodesOf (now (t .entry))) (satisfiedIs (now (t .entry))) d c ⌝ }
+    ensures { λ o. ⌜ o ≡ of.quorum (now (t .entry)) d c ⌝ }
 {
     if c == 0 {
         return false;
