@@ -2,8 +2,8 @@
 //
 // A case is the operation (1 byte), two numbers (8 bytes each), the room lent (2 bytes), the length of what follows (2 bytes) and that
 // many bytes: a sheet, or the words of a table at 8 bytes each. Numbers stand lowest byte first. The line of a case has the eleven fields
-// of its reply, and then the words that were written; the text of a written sheet follows its line. What else changed in the lent buffer
-// would be printed too.
+// of its reply, and then the words that were written; the text of a written sheet or a report follows its line. What else changed in the
+// lent buffer would be printed too.
 use libc::STDIN_FILENO;
 use libc::STDOUT_FILENO;
 use replies::Reply;
@@ -118,6 +118,13 @@ fn put_list(r: Reply, list: &[u64; 520]) {
     end_line();
 }
 
+// The line of a text, and the text.
+fn put_text(r: Reply, text: &[u8; 4096]) {
+    put_reply(r);
+    end_line();
+    put_bytes(text, claimed(r));
+}
+
 // A question that writes nothing.
 fn plain(op: u64, table: &[u64], a: u64, b: u64) {
     match op {
@@ -172,9 +179,18 @@ fn write(table: &[u64], room: usize) {
     let from = 0;
     let mut text = [BLANK_BYTE; 4096];
     let r = interface::breezedrum_write_sheet(table, &mut text[from..room]);
-    put_reply(r);
-    end_line();
-    put_bytes(&text, claimed(r));
+    put_text(r, &text);
+}
+
+// The report on a sheet, with a buffer lent.
+fn report(sheet: &[u8], room: usize) {
+    if room > 4096 {
+        return;
+    }
+    let from = 0;
+    let mut text = [BLANK_BYTE; 4096];
+    let r = interface::breezedrum_report(sheet, &mut text[from..room]);
+    put_text(r, &text);
 }
 
 // A question on a table.
@@ -205,10 +221,10 @@ fn ask_words(op: u64, payload: &[u8], a: u64, b: u64, room: usize) {
 
 // A case in its parts.
 fn run(op: u64, payload: &[u8], a: u64, b: u64, room: usize) {
-    if op == 1 {
-        read(payload, room);
-    } else {
-        ask_words(op, payload, a, b, room);
+    match op {
+        1 => read(payload, room),
+        10 => report(payload, room),
+        _ => ask_words(op, payload, a, b, room),
     }
 }
 
@@ -219,7 +235,7 @@ fn case(s: &[u8]) -> usize {
         return all;
     }
     let op = byte(s, 0);
-    if op > 9 {
+    if op > 10 {
         return all;
     }
     let length = two(s, 19) as usize;
