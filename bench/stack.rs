@@ -11,6 +11,7 @@ extern "C" {
     fn breezedrum_check(table: *const u64, words: usize) -> Reply;
     fn breezedrum_read_sheet(sheet: *const u8, bytes: usize, table: *mut u64, words: usize) -> Reply;
     fn breezedrum_write_sheet(table: *const u64, words: usize, sheet: *mut u8, bytes: usize) -> Reply;
+    fn breezedrum_report(sheet: *const u8, bytes: usize, out: *mut u8, room: usize) -> Reply;
     fn breezedrum_quorum(table: *const u64, words: usize, out: u64, set: u64) -> Reply;
     fn breezedrum_greatest(table: *const u64, words: usize, out: u64, set: u64) -> Reply;
     fn breezedrum_blocks(table: *const u64, words: usize, set: u64, node: u64) -> Reply;
@@ -22,7 +23,7 @@ extern "C" {
 
 const DEPTH: usize = 512 * 1024;
 const PAINT: u8 = 0xa5;
-const NAMES: [&str; 10] = ["check", "read", "write", "quorum", "greatest", "blocks", "verdict", "minimal", "blocking", "intact"];
+const NAMES: [&str; 11] = ["check", "read", "write", "quorum", "greatest", "blocks", "verdict", "minimal", "blocking", "intact", "report"];
 
 #[inline(never)]
 fn below(question: &mut dyn FnMut()) -> usize {
@@ -42,8 +43,8 @@ fn below(question: &mut dyn FnMut()) -> usize {
 }
 
 // The bytes of stack that each function takes on one sheet, in the order of NAMES.
-fn taken(sheet: &[u8]) -> [usize; 10] {
-    let (mut table, mut sets, mut text) = (vec![0u64; 512], vec![0u64; 1024], vec![0u8; 48128]);
+fn taken(sheet: &[u8]) -> [usize; 11] {
+    let (mut table, mut sets, mut text) = (vec![0u64; 512], vec![0u64; 1024], vec![0u8; 1 << 20]);
     let allowance = 100_000;
     unsafe {
         let (s, t) = (sheet.as_ptr(), table.as_mut_ptr());
@@ -54,7 +55,7 @@ fn taken(sheet: &[u8]) -> [usize; 10] {
         [
             below(&mut || { breezedrum_check(t, n); }),
             below(&mut || { breezedrum_read_sheet(s, sheet.len(), t, 512); }),
-            below(&mut || { breezedrum_write_sheet(t, n, x, 48128); }),
+            below(&mut || { breezedrum_write_sheet(t, n, x, 1 << 20); }),
             below(&mut || { breezedrum_quorum(t, n, 0, all); }),
             below(&mut || { breezedrum_greatest(t, n, 0, all); }),
             below(&mut || { breezedrum_blocks(t, n, 0, 0); }),
@@ -62,6 +63,7 @@ fn taken(sheet: &[u8]) -> [usize; 10] {
             below(&mut || { breezedrum_minimal(t, n, allowance, l, 1024); }),
             below(&mut || { breezedrum_blocking(t, n, allowance, l, 1024); }),
             below(&mut || { breezedrum_intact(t, n, 1, allowance); }),
+            below(&mut || { breezedrum_report(s, sheet.len(), x, 1 << 20); }),
         ]
     }
 }

@@ -17,9 +17,9 @@
  * Threads: nothing is kept between calls and there are no globals, so several threads may call at once. Two calls may read one input; a
  * lent buffer belongs to one call until it returns.
  *
- * Stack (bench/stack): at most 38,584 bytes were measured for a list, 25,304 for a verdict or the intact nodes, 4,416 for reading a sheet,
- * 1,560 for anything else, on tables of 64 nodes and 256 records whose searches go as deep as they can: the depth is bounded by the nodes,
- * whatever the allowance. A thread with 64 KiB of stack is enough for these; the report was not measured.
+ * Stack (bench/stack): at most 60,584 bytes were measured for a report, 38,584 for a list, 25,320 for a verdict or the intact nodes, 4,544
+ * for reading a sheet, 1,032 for anything else, on tables of 64 nodes and 256 records whose searches go as deep as they can: the depth is
+ * bounded by the nodes, whatever the allowance. A thread with 96 KiB of stack is enough for a report, one with 64 KiB for all the others.
  *
  *   number  when                                                   also given
  *   0       answered                                               the question's own fields, below

@@ -17,4 +17,12 @@ fn main() {
         (0, _) => println!("two quorums share none: {:?} and {:?}", breezedrum::ids(verdict.first), breezedrum::ids(verdict.second)),
         (number, _) => println!("no answer: number {number}"),
     }
+    // A report that does not fit is a 10, whose count is the room it needs.
+    let mut text = vec![0u8; 4096];
+    let mut report = breezedrum::report(&sheet, &mut text);
+    if report.number == 10 {
+        text.resize(report.count as usize, 0);
+        report = breezedrum::report(&sheet, &mut text);
+    }
+    print!("{}", String::from_utf8_lossy(&text[..report.count as usize]));
 }
