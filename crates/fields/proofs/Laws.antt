@@ -15,7 +15,8 @@ use Rattle.members.proofs.Written.{length-members}
 use lib.ListN.{length, drop, getD, length-append, length-drop, drop-of-length-le}
 use lib.Seq.{drop-cons}
 use borrow.Author.Tests.{lt-ltb, le-ltb}
-use Rattle.fields.specs.Fields.{row, wordText, fieldText, texts, lineOf, endAt, ended}
+use Rattle.words.specs.Words.{wordText}
+use Rattle.fields.specs.Fields.{row, fieldText, texts, lineOf, endAt, ended}
 
 -- one field more, whatever follows
 row-more : (w v : List ℕ) (vs : List (List ℕ)) → row (w ∷ v ∷ vs) ≡ ended w 9 ++ row (v ∷ vs)

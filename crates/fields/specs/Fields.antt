@@ -7,7 +7,7 @@ use mathlib.Core.List.{List, [], _∷_, _++_}
 use lib.Dec.{eqb, ltb}
 use Rattle.decimal.specs.Decimal.{numeral}
 use Rattle.members.specs.Members.{memberText}
-use Rattle.fields.specs.Words as word
+use Rattle.words.specs.Words.{wordText}
 
 -- the texts of the fields with tabs between them, ended by LF
 unfoldable pub row : List (List ℕ) → List ℕ
@@ -16,21 +16,6 @@ row (w ∷ []) = w ++ 10 ∷ []
 row (w ∷ v ∷ ws) = w ++ 9 ∷ row (v ∷ ws)
 
 -- ---- A field is two words: what kind it is of, and the number, the set, or which of the fixed words it is.
--- the fixed words by their numbers
-unfoldable pub wordText : ℕ → List ℕ
-wordText x =
-    cond (eqb x 0) word.refused
-    (cond (eqb x 1) word.nodes
-    (cond (eqb x 2) word.sets
-    (cond (eqb x 3) word.verdict
-    (cond (eqb x 4) word.yes
-    (cond (eqb x 5) word.no
-    (cond (eqb x 6) word.none
-    (cond (eqb x 7) word.minimal
-    (cond (eqb x 8) word.q
-    (cond (eqb x 9) word.blocking
-    (cond (eqb x 10) word.b []))))))))))
-
 -- the kinds: 0 a word, 1 a number, 2 a set, printed as on a sheet
 unfoldable pub fieldText : ℕ → ℕ → List ℕ
 fieldText kind x = cond (eqb kind 0) (wordText x) (cond (eqb kind 1) (numeral x) (cond (eqb kind 2) (memberText x) []))

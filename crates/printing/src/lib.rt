@@ -4,18 +4,19 @@
 ghost use Prim.Native.Nat.{_≤_};
 ghost use lib.ListN.{length};
 ghost use Rattle.replies.specs.Shows.{told};
-ghost use Rattle.fields.specs.Fields.{wordText, lineOf};
+ghost use Rattle.words.specs.Words.{wordText};
+ghost use Rattle.fields.specs.Fields.{lineOf};
 ghost use Rattle.report_lines.specs.Lines.{refusedLine, setLines};
 ghost use Rattle.report_parts.specs.Parts.{listText};
 ghost use Rattle.report.specs.Report.{headPart, minimalPart, blockingPart, reportOn, reportOf};
 ghost use Rattle.printing.specs.Printing.{Stands, Handed, All};
 use answers::Read;
-use fields::B;
-use fields::BLOCKING;
-use fields::MINIMAL;
-use fields::Q;
 use libc::STDOUT_FILENO;
 use replies::Reply;
+use words::B;
+use words::BLOCKING;
+use words::MINIMAL;
+use words::Q;
 
 // How many bytes of the report are handed over, or that a write failed, which ends the printing.
 pub enum Shown {

@@ -8,7 +8,7 @@ use Rattle.lines.specs.Lines.{readField, readLast, readLine}
 use Rattle.meanings.specs.Replies.{reply, _is_, Visits, Count}
 use Rattle.meanings.specs.Rows.{computing}
 use Rattle.sheets.specs.Sheets.{takeLines, sheetLines, readReply, readPuts}
-use Rattle.fields.specs.Words as word
+use Rattle.words.specs.Words as word
 use Rattle.fields.specs.Fields.{row}
 use Rattle.report_lines.specs.Lines.{refusedLine, nodesLine, answerText, verdictLine, listLine, setLine, setLines}
 use Rattle.report.specs.Report.{listPart, minimalPart, blockingPart, headPart, reportOn, reportOf}

@@ -22,7 +22,7 @@ use Rattle.replies.specs.declared.Reply.{Reply}
 use Rattle.replies.specs.Shows.{Shows, told}
 use Rattle.lists.specs.Lists.{ListsMinimal, ListsBlocking}
 use Rattle.lists.proofs.Means.{minimal-all, blocking-all}
-use Rattle.fields.specs.Words as word
+use Rattle.words.specs.Words as word
 use Rattle.report_lines.specs.Lines.{listLine, setLines}
 use Rattle.report_lines.proofs.Told.{nodes-told, verdict-told, list-told}
 use Rattle.report_parts.specs.Parts.{following, listText, headText, allText}

@@ -15,7 +15,7 @@ use Rattle.answers.specs.declared.Wrote.{Wrote}
 use Rattle.replies.specs.declared.Reply.{Reply as Struct}
 use Rattle.sheets.specs.Sheets.{readReply, readPuts}
 use Rattle.sheets.specs.Promises.{Put}
-use Rattle.fields.specs.Words as word
+use Rattle.words.specs.Words as word
 use Rattle.report_lines.specs.Lines.{refusedLine, nodesLine, verdictLine, listLine, setLines}
 use Rattle.report_parts.specs.Parts.{following, listText}
 

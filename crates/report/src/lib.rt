@@ -6,17 +6,17 @@ ghost use lib.ListN.{length};
 ghost use Rattle.answers.specs.Said.{wroteSays};
 ghost use Rattle.replies.specs.Shows.{told};
 ghost use Rattle.sheets.specs.Promises.{Put};
-ghost use Rattle.fields.specs.Words as word;
+ghost use Rattle.words.specs.Words as word;
 ghost use Rattle.report_lines.specs.Lines.{refusedLine};
 ghost use Rattle.report_parts.specs.Parts.{following as followingOf, allText};
 ghost use Rattle.report.specs.Report.{Part, minimalPart, blockingPart, reportOn, ReportPromise};
 use answers::Read;
 use answers::Wrote;
-use fields::B;
-use fields::BLOCKING;
-use fields::MINIMAL;
-use fields::Q;
 use replies::Reply;
+use words::B;
+use words::BLOCKING;
+use words::MINIMAL;
+use words::Q;
 
 // The visits that each question may take.
 pub const ALLOWANCE: u64 = 1000000;

@@ -9,7 +9,7 @@ use Rattle.decimal.specs.Decimal.{numeral}
 use Rattle.members.specs.Members.{memberText}
 use Rattle.meanings.specs.Replies.{Reply, value, Place, Nodes, Records, Answer, First, Second, Count, Visits}
 use Rattle.fields.specs.Fields.{row, lineOf}
-use Rattle.fields.specs.Words as word
+use Rattle.words.specs.Words as word
 
 -- a bad sheet: number and place
 unfoldable pub refusedLine : Reply → List ℕ

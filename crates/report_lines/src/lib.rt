@@ -1,19 +1,19 @@
 // The lines of the report (SPECIFICATION 9): each is one list of fields, made of what an answer says. `fields` writes it.
 ghost use mathlib.Core.Path.{_≡_};
 ghost use Rattle.replies.specs.Shows.{told};
-ghost use Rattle.fields.specs.Fields.{wordText};
+ghost use Rattle.words.specs.Words.{wordText};
 ghost use Rattle.report_lines.specs.Lines.{refusedLine, nodesLine, answerText, verdictLine, listLine, setLine, Fields};
-use fields::NO;
-use fields::NODES;
-use fields::NONE;
 use fields::NUMBER;
-use fields::REFUSED;
 use fields::SET;
-use fields::SETS;
-use fields::VERDICT;
 use fields::WORD;
-use fields::YES;
 use replies::Reply;
+use words::NO;
+use words::NODES;
+use words::NONE;
+use words::REFUSED;
+use words::SETS;
+use words::VERDICT;
+use words::YES;
 
 // A sheet is turned away: number and place.
 pub fn refused(r: Reply) -> [u64; 6]

@@ -5,7 +5,7 @@ use mathlib.Core.List.{List, _++_}
 use lib.Dec.{eqb}
 use Rattle.replies.specs.declared.Reply.{Reply as Struct}
 use Rattle.replies.specs.Shows.{told}
-use Rattle.fields.specs.Words as word
+use Rattle.words.specs.Words as word
 use Rattle.report_lines.specs.Lines.{nodesLine, verdictLine, listLine, setLines}
 
 -- how many of a list's sets follow its line, and the list with the sets that do

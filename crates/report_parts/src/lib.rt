@@ -3,14 +3,15 @@
 ghost use Prim.Native.Nat.{_*_, _≤_};
 ghost use lib.ListN.{length};
 ghost use Rattle.decimal.specs.Bytes.{Written};
-ghost use Rattle.fields.specs.Fields.{wordText, Counted};
+ghost use Rattle.words.specs.Words.{wordText};
+ghost use Rattle.fields.specs.Fields.{Counted};
 ghost use Rattle.report_lines.specs.Lines.{setLines};
 ghost use Rattle.report_parts.specs.Parts.{headText, listText, allText};
-use fields::B;
-use fields::BLOCKING;
-use fields::MINIMAL;
-use fields::Q;
 use replies::Reply;
+use words::B;
+use words::BLOCKING;
+use words::MINIMAL;
+use words::Q;
 
 // How many bytes the sets of a list take, a line for each behind the letter of the list.
 fn sets_len(letter: u64, sets: &[u64]) -> usize

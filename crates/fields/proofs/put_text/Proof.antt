@@ -6,7 +6,7 @@ use denote.Ref.{now}
 use lib.ListN.{length}
 use Rattle.decimal.specs.Bytes.{Written}
 use Rattle.fields.specs.Fields.{fieldText}
-use Rattle.fields.proofs.Words.{kind-fits, kind-written, no-kind}
+use Rattle.fields.proofs.Sorts.{kind-fits, kind-written, no-kind}
 use Rattle.fields.proofs.put_text.Statement.{statement}
 use Rattle.fields.proofs.put_text.Tie as tie
 

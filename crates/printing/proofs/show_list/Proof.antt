@@ -6,7 +6,7 @@ use mathlib.Core.Path.{_≡_, sym}
 use mathlib.Core.List.{List, _++_}
 use denote.Ref.{now}
 use lib.ListN.{length}
-use Rattle.fields.specs.Fields.{wordText}
+use Rattle.words.specs.Words.{wordText}
 use Rattle.replies.specs.Shows.{told}
 use Rattle.report_lines.specs.Lines.{listLine, setLines}
 use Rattle.report_parts.specs.Parts.{listText}

@@ -6,7 +6,7 @@ use mathlib.Core.Path.{_≡_, refl, sym, ap}
 use mathlib.Core.List.{List, _++_}
 use denote.Ref.{now}
 use lib.ListN.{length, drop, getD}
-use Rattle.fields.specs.Fields.{wordText}
+use Rattle.words.specs.Words.{wordText}
 use Rattle.report_lines.specs.Lines.{setLine, setLines}
 use Rattle.report.specs.Report.{reportOn}
 use Rattle.report_parts.proofs.Sets.{next-set, length-next, no-set}

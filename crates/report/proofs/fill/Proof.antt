@@ -7,8 +7,8 @@ use mathlib.Core.List.{List, _++_}
 use Prim.Native.Nat.{ℕ}
 use denote.Ref.{now}
 use lib.ListN.{length, length-append}
-use Rattle.fields.specs.Fields.{wordText}
-use Rattle.fields.specs.Words as word
+use Rattle.words.specs.Words.{wordText}
+use Rattle.words.specs.Words as word
 use Rattle.sheets.proofs.Filling.{too-short, put}
 use Rattle.report_parts.specs.Parts.{headText, listText, allText}
 use Rattle.report.proofs.fill.Statement.{statement}

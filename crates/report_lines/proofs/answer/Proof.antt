@@ -1,7 +1,7 @@
 -- By cases of the two tests.
 use mathlib.Core.Path.{refl}
 use borrow.Author.Tests.{eq-eqb, ne-eqb}
-use Rattle.fields.specs.Fields.{wordText}
+use Rattle.words.specs.Words.{wordText}
 use Rattle.report_lines.specs.Lines.{answerText}
 use Rattle.report_lines.proofs.answer.Statement.{statement}
 use Rattle.report_lines.proofs.answer.Tie as tie

@@ -1,6 +1,7 @@
 -- The fields are those of the line.
 use mathlib.Core.Path.{refl}
-use Rattle.fields.specs.Fields.{wordText, fieldText, texts, lineOf}
+use Rattle.words.specs.Words.{wordText}
+use Rattle.fields.specs.Fields.{fieldText, texts, lineOf}
 use Rattle.report_lines.specs.Lines.{setLine}
 use Rattle.report_lines.proofs.one.Statement.{statement}
 use Rattle.report_lines.proofs.one.Tie as tie

@@ -1,8 +1,9 @@
 -- The fields are those of the line.
 use borrow.Author.Needs.{needs}
 use mathlib.Core.Path.{_≡_, refl}
-use Rattle.fields.specs.Fields.{wordText, fieldText, texts, lineOf}
-use Rattle.fields.specs.Words as word
+use Rattle.words.specs.Words.{wordText}
+use Rattle.fields.specs.Fields.{fieldText, texts, lineOf}
+use Rattle.words.specs.Words as word
 use Rattle.report_lines.specs.Lines.{verdictLine}
 use Rattle.report_lines.proofs.verdict.Statement.{statement}
 use Rattle.report_lines.proofs.verdict.Tie as tie

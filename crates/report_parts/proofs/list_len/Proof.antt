@@ -6,7 +6,7 @@ use mathlib.Core.Path.{ap}
 use denote.Ref.{now}
 use lib.ListN.{length, length-append}
 use Rattle.replies.specs.Shows.{told}
-use Rattle.fields.specs.Fields.{wordText}
+use Rattle.words.specs.Words.{wordText}
 use Rattle.report_lines.specs.Lines.{listLine, setLines}
 use Rattle.report_parts.specs.Parts.{listText}
 use Rattle.report_parts.proofs.list_len.Statement.{statement}

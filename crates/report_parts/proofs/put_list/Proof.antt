@@ -10,7 +10,7 @@ use borrow.Rule.Slice.PartMut.{putMid}
 use Rattle.decimal.specs.Bytes.{Written}
 use Rattle.decimal.proofs.Place.{within, room, next}
 use Rattle.replies.specs.Shows.{told}
-use Rattle.fields.specs.Fields.{wordText}
+use Rattle.words.specs.Words.{wordText}
 use Rattle.report_lines.specs.Lines.{listLine, setLines}
 use Rattle.report_parts.specs.Parts.{listText}
 use Rattle.report_parts.proofs.put_list.Statement.{statement}

@@ -9,8 +9,8 @@ use lib.ListN.{length, take, drop, length-append}
 use borrow.Rule.Slice.PartMut.{putMid}
 use Rattle.decimal.specs.Bytes.{Written}
 use Rattle.decimal.proofs.Place.{within, room, next}
-use Rattle.fields.specs.Fields.{wordText}
-use Rattle.fields.specs.Words as word
+use Rattle.words.specs.Words.{wordText}
+use Rattle.words.specs.Words as word
 use Rattle.report_parts.specs.Parts.{headText, listText, allText}
 use Rattle.report_parts.proofs.put_parts.Statement.{statement}
 use Rattle.report_parts.proofs.put_parts.Tie as tie

@@ -9,7 +9,7 @@ use lib.ListN.{length, take, drop, getD, length-append}
 use borrow.Rule.Slice.PartMut.{putMid}
 use Rattle.decimal.specs.Bytes.{Written}
 use Rattle.decimal.proofs.Place.{within, room, next, length-front}
-use Rattle.fields.specs.Fields.{wordText}
+use Rattle.words.specs.Words.{wordText}
 use Rattle.report_lines.specs.Lines.{setLine, setLines}
 use Rattle.report_parts.proofs.Sets.{next-set, length-next, no-set}
 use Rattle.report_parts.proofs.put_sets.Statement.{statement}

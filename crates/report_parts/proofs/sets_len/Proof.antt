@@ -7,7 +7,7 @@ use mathlib.Core.Path.{_≡_, ap}
 use mathlib.Core.List.{List}
 use denote.Ref.{now}
 use lib.ListN.{length, drop, getD}
-use Rattle.fields.specs.Fields.{wordText}
+use Rattle.words.specs.Words.{wordText}
 use Rattle.report_lines.specs.Lines.{setLine, setLines}
 use Rattle.report_parts.proofs.Sets.{length-next, no-set}
 use Rattle.report_parts.proofs.sets_len.Statement.{statement}

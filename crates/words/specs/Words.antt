@@ -1,6 +1,8 @@
 -- The report's fixed words, byte by byte.
 use Prim.Native.Nat.{ℕ}
+use mathlib.Core.Bool.{cond}
 use mathlib.Core.List.{List, [], _∷_}
+use lib.Dec.{eqb}
 
 abbrev pub refused : List ℕ
 refused = 114 ∷ 101 ∷ 102 ∷ 117 ∷ 115 ∷ 101 ∷ 100 ∷ []
@@ -37,3 +39,18 @@ q = 113 ∷ []
 -- `b`: a minimal blocking set
 abbrev pub b : List ℕ
 b = 98 ∷ []
+
+-- the fixed words by their numbers
+unfoldable pub wordText : ℕ → List ℕ
+wordText x =
+    cond (eqb x 0) refused
+    (cond (eqb x 1) nodes
+    (cond (eqb x 2) sets
+    (cond (eqb x 3) verdict
+    (cond (eqb x 4) yes
+    (cond (eqb x 5) no
+    (cond (eqb x 6) none
+    (cond (eqb x 7) minimal
+    (cond (eqb x 8) q
+    (cond (eqb x 9) blocking
+    (cond (eqb x 10) b []))))))))))

@@ -1,4 +1,4 @@
--- A fixed word that is copied to the front is written there, whichever it is; and so is a field of each kind.
+-- A fixed word that is copied to the front is written there, whichever it is.
 use Prim.Native.Nat.{ℕ, _≤_}
 use mathlib.Core.Path.{_≡_, refl, sym, subst}
 use mathlib.Core.List.{List, _++_}
@@ -6,7 +6,7 @@ use lib.ListN.{length, take, drop}
 use lib.Seq.{take-length}
 use borrow.Author.Tests.{ne-eqb}
 use Rattle.decimal.specs.Bytes.{Written}
-use Rattle.fields.specs.Fields.{wordText, fieldText}
+use Rattle.words.specs.Words.{wordText}
 
 module _ (w k : ℕ) (d : List ℕ) where
   pub word-fits : w ≡ k → length (wordText w) ≤ length d → length (wordText k) ≤ length d
@@ -37,15 +37,3 @@ no-word w d a b c e f g h i j k l =
       ne-eqb w 10 l,
     )
     (record { count = refl; bytes = refl })
-
-pub no-kind : (kind x : ℕ) (d : List ℕ) → ¬ (kind ≡ 0) → ¬ (kind ≡ 1) → ¬ (kind ≡ 2) → Written (fieldText kind x) d d 0
-unfolding fieldText
-no-kind kind x d a b c = rw (ne-eqb kind 0 a, ne-eqb kind 1 b, ne-eqb kind 2 c) (record { count = refl; bytes = refl })
-
--- likewise a field of a kind that is written by the writer of that kind
-module _ (kind k x : ℕ) (d : List ℕ) where
-  pub kind-fits : kind ≡ k → length (fieldText kind x) ≤ length d → length (fieldText k x) ≤ length d
-  kind-fits e h = subst (λ (y : ℕ). length (fieldText y x) ≤ length d) e h
-
-  pub kind-written : (o : List ℕ) (n : ℕ) → kind ≡ k → Written (fieldText k x) d o n → Written (fieldText kind x) d o n
-  kind-written o n e h = subst (λ (y : ℕ). Written (fieldText y x) d o n) (sym e) h

@@ -1,10 +1,10 @@
 -- The word of each number is copied to the front.
 use borrow.Author.Needs.{needs}
 use denote.Ref.{now}
-use Rattle.fields.specs.Fields.{wordText}
-use Rattle.fields.proofs.Words.{word-fits, word-copied, no-word}
-use Rattle.fields.proofs.put_word.Statement.{statement}
-use Rattle.fields.proofs.put_word.Tie as tie
+use Rattle.words.specs.Words.{wordText}
+use Rattle.words.proofs.Laws.{word-fits, word-copied, no-word}
+use Rattle.words.proofs.put_word.Statement.{statement}
+use Rattle.words.proofs.put_word.Tie as tie
 
 slice-aggregate-copy : tie.Need-slice-aggregate-copy
 slice-aggregate-copy c = search needs
