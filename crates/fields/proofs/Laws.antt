@@ -2,17 +2,16 @@
 -- is still to be written at the next.
 use Prim.Native.Nat.{ℕ, suc, _+_, _*_, _^_, _≤_, _<_}
 use native.Mathlib.Omega.{arith}
-use native.Mathlib.Numerals.{add-one}
 use mathlib.Core.Path.{_≡_, refl, sym, ap, _∙_}
 use mathlib.Core.List.{List, [], _∷_, _++_, append-assoc, append-nil}
 use mathlib.Core.Bool.{Bool, true, false, cond}
-use lib.Dec.{ltb, eqb}
+use lib.Dec.{eqb}
 use Rattle.decimal.specs.Bytes.{Written}
 use Rattle.decimal.specs.Decimal.{numeral}
 use Rattle.decimal.proofs.Numeral.{length-word}
 use Rattle.members.specs.Members.{memberText}
 use Rattle.members.proofs.Written.{length-members}
-use lib.ListN.{length, drop, getD, length-append, length-drop, drop-of-length-le}
+use lib.ListN.{length, drop, getD, length-append, length-drop}
 use lib.Seq.{drop-cons}
 use borrow.Author.Tests.{lt-ltb, le-ltb}
 use Rattle.words.specs.Words.{wordText}

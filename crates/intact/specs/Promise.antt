@@ -5,7 +5,6 @@ use mathlib.Core.List.{List}
 use Prim.Native.Nat.{ℕ}
 use Rattle.meanings.specs.Of as of
 use Rattle.sets.specs.Sets.{nobody}
-use Rattle.meanings.specs.Table.{nodes}
 use Rattle.meanings.specs.Questions.{intactReply}
 use Rattle.answers.specs.Said.{intactSays}
 use Rattle.answers.specs.declared.Intact.{Intact}

@@ -9,7 +9,6 @@ use Rattle.meanings.specs.Of as of
 use Rattle.sets.specs.Sets.{everyone, within}
 use Rattle.meanings.specs.Table.{records, nodes}
 use Rattle.meanings.specs.Faults.{Check, sound, fault, check}
-use Rattle.meanings.specs.Quorums.{quorum, greatest}
 use Rattle.meanings.specs.Trees.{Pair, Walk, hit, missed, stuck, Listing, listed, broken, walk, list}
 use Rattle.meanings.specs.Intact.{Ended, intactAre, divided, stuckAfter}
 use Rattle.meanings.specs.Replies.{Reply, reply, _is_, Place, Nodes, Records, Answer, Set, Rounds, First, Second, Count, Visits}

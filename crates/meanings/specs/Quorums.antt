@@ -2,7 +2,7 @@
 -- quorum set of node v. Nothing here knows of tables, and nothing of how an answer is found: each subset of the nodes is held against each
 -- other subset.
 use mathlib.Core.Bool.{Bool, not, _&&_, _||_}
-use mathlib.Core.List.{List, [], foldr}
+use mathlib.Core.List.{List, foldr}
 use Prim.Native.Nat.{ℕ}
 use lib.Dec.{eqb}
 use Rattle.sets.specs.Sets.{has, nobody, everyone, _∪_, _∖_, empty, within, smaller, meets, setOf, each}

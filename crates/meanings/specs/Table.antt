@@ -1,7 +1,7 @@
 -- SPECIFICATION 1, and of 3 what it is to satisfy a quorum set.
 -- A table is a list of words, two a record: the control word, threshold + 256 x level, and the member mask.
 use mathlib.Core.Bool.{Bool, not, _&&_}
-use mathlib.Core.List.{List, []}
+use mathlib.Core.List.{List}
 use Prim.Native.Nat.{ℕ, zero, suc, _+_, _-_, _*_, _/_, _%_}
 use lib.Dec.{leb, eqb}
 use lib.ListN.{length, getD}

@@ -4,6 +4,7 @@ use Prim.Native.Nat.{ℕ, _+_, _≤_}
 use native.Mathlib.Omega.{arith}
 use native.Mathlib.Nat.{zero-add}
 use mathlib.Core.Path.{_≡_, refl, sym, ap, _∙_, subst}
+use mathlib.Core.Bool.{Bool, true, false, cond}
 use mathlib.Core.List.{List, [], _++_, append-assoc, append-nil}
 use lib.ListN.{length, take, drop, length-append}
 use lib.Seq.{take-at}
@@ -76,3 +77,10 @@ all-as u v o e h = subst (λ (x : List ℕ). All x o) e h
 pub all-none : (text : List ℕ) (o : Shown) → o ≡ Failed → All text o
 unfolding All
 all-none text o e = subst (All text) (sym e) tt
+
+-- what is counted of a part is all of it, if it was taken
+pub handed-counted : (part : List ℕ) (most : ℕ) (taken : Bool) (n : ℕ) (o : Shown) → o ≡ cond taken (Up n) Failed → n ≡ length part → n ≤ most
+    → Handed part 0 most o
+unfolding Handed
+handed-counted part most true n o e h l = subst (Handed part 0 most) (sym e) (h ∙ sym (zero-add (length part)), omega (arith, l))
+handed-counted part most false n o e h l = subst (Handed part 0 most) (sym e) tt

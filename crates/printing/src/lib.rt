@@ -1,6 +1,8 @@
 // The report on standard output, one line after the other, within a small stack: the same lines that `report` puts into a buffer. Which
 // bytes the system writes no contract can say; each function that prints a part is told how many bytes are handed over before it, and asks
 // that the part stands there in the report.
+ghost use mathlib.Core.Path.{_≡_};
+ghost use mathlib.Core.Bool.{cond};
 ghost use Prim.Native.Nat.{_≤_};
 ghost use lib.ListN.{length};
 ghost use Rattle.replies.specs.Shows.{told};
@@ -9,6 +11,7 @@ ghost use Rattle.fields.specs.Fields.{lineOf};
 ghost use Rattle.report_lines.specs.Lines.{refusedLine, setLines};
 ghost use Rattle.report_parts.specs.Parts.{listText};
 ghost use Rattle.report.specs.Report.{headPart, minimalPart, blockingPart, reportOn, reportOf};
+ghost use Rattle.printing.specs.declared.Shown.the-variants.{Up, Failed};
 ghost use Rattle.printing.specs.Printing.{Stands, Handed, All};
 use answers::Read;
 use libc::STDOUT_FILENO;
@@ -24,15 +27,22 @@ pub enum Shown {
     Failed,
 }
 
-// Hands bytes over, and counts them only if they were taken.
-fn hand(bytes: &[u8]) -> Shown
-    requires { ⌜ length (now bytes) ≤ 1092 ⌝ }
-    ensures { λ o. ⌜ Handed (now (bytes .entry)) 0 1092 o ⌝ }
+// What is counted of so many bytes: all, if they were taken.
+fn counted(taken: bool, bytes: usize) -> Shown
+    ensures { λ o. ⌜ o ≡ cond taken (Up bytes) Failed ⌝ }
 {
-    if io::write_all(STDOUT_FILENO, bytes) {
-        return Shown::Up { to: bytes.len() };
+    if taken {
+        return Shown::Up { to: bytes };
     }
     Shown::Failed
+}
+
+// Hands the bytes of a line over, which the fields say.
+fn hand(fields: &[u64], bytes: &[u8]) -> Shown
+    requires { ⌜ (now bytes ≡ lineOf (now fields)) × (length (now bytes) ≤ 1092) ⌝ }
+    ensures { λ o. ⌜ Handed (lineOf (now (fields .entry))) 0 1092 o ⌝ }
+{
+    counted(io::write_all(STDOUT_FILENO, bytes), bytes.len())
 }
 
 // A line of up to six fields, behind the bytes that are handed over before it.
@@ -42,14 +52,14 @@ fn print(at: usize, fields: &[u64]) -> Shown
 {
     let mut line = [0u8; 1092];
     let k = fields::put_line(&mut line, fields);
-    let handed = hand(&line[..k]);
+    let handed = hand(fields, &line[..k]);
     let Shown::Up { to } = handed else {
         return handed;
     };
     Shown::Up { to: at + to }
 }
 
-// A line of the report on a table, which stands there.
+// A line of the report on a table, which stands there. The table is lent for what is asked alone, so that nothing else can be printed.
 fn show(table: &[u64], at: usize, fields: &[u64]) -> Shown
     requires { ⌜ (Stands (reportOn (now table)) at (lineOf (now fields))) × (at ≤ 4000000) × (length (now fields) ≤ 12) ⌝ }
     ensures { λ o. ⌜ Handed (lineOf (now (fields .entry))) at 1092 o ⌝ }
@@ -125,9 +135,10 @@ fn show_blocking(table: &[u64], at: usize) -> Shown
     show_list(table, at, BLOCKING, B, listed, &sets[..k])
 }
 
-// The report on a table that was read.
-fn show_table(table: &[u64]) -> Shown
-    ensures { λ o. ⌜ All (reportOn (now (table .entry))) o ⌝ }
+// The report on a table that was read from the sheet.
+fn show_table(sheet: &[u8], table: &[u64]) -> Shown
+    requires { ⌜ reportOn (now table) ≡ reportOf (now sheet) ⌝ }
+    ensures { λ o. ⌜ All (reportOf (now (sheet .entry))) o ⌝ }
 {
     let head = show_head(table);
     let Shown::Up { to } = head else {
@@ -141,8 +152,9 @@ fn show_table(table: &[u64]) -> Shown
 }
 
 // A bad sheet: one line.
-fn show_refused(r: Reply) -> Shown
-    ensures { λ o. ⌜ All (refusedLine (told r)) o ⌝ }
+fn show_refused(sheet: &[u8], r: Reply) -> Shown
+    requires { ⌜ refusedLine (told r) ≡ reportOf (now sheet) ⌝ }
+    ensures { λ o. ⌜ All (reportOf (now (sheet .entry))) o ⌝ }
 {
     let line = report_lines::refused(r);
     print(0, &line)
@@ -155,8 +167,8 @@ pub fn show_report(sheet: &[u8]) -> Shown
     let mut table = [0u64; 512];
     let read = sheets::read_sheet(sheet, &mut table);
     let Read::Words { count } = read else {
-        return show_refused(replies::of_read(read));
+        return show_refused(sheet, replies::of_read(read));
     };
     let k = count as usize;
-    show_table(&table[..k])
+    show_table(sheet, &table[..k])
 }

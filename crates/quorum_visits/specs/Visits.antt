@@ -6,8 +6,7 @@ use mathlib.Core.List.{List}
 use Prim.Native.Nat.{ℕ, _<_, _^_}
 use Rattle.meanings.specs.Of as of
 use Rattle.sets.specs.Sets.{has, nobody, only, _∪_, _∖_, empty, within}
-use Rattle.meanings.specs.Table.{nodes, satisfied}
-use Rattle.meanings.specs.Quorums.{quorum, greatest}
+use Rattle.meanings.specs.Table.{nodes}
 use Rattle.plans.specs.Plans.{Planned}
 use Rattle.greatest.specs.Greatest.{holding, Waiting}
 use Rattle.quorum_visits.specs.declared.Visit.{Visit}

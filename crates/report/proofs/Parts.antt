@@ -4,7 +4,7 @@ use Prim.Native.Nat.{ℕ, _≤_}
 use native.Mathlib.Omega.{arith}
 use mathlib.Core.Path.{_≡_, refl, sym, ap, _∙_, subst}
 use mathlib.Core.Bool.{true, false}
-use mathlib.Core.List.{List, [], _∷_, _++_}
+use mathlib.Core.List.{List, _++_}
 use lib.Dec.{eqb}
 use lib.ListN.{length, take, drop}
 use lib.Seq.{take-at}
@@ -19,11 +19,11 @@ use Rattle.answers.specs.declared.Listed.{Listed}
 use Rattle.answers.specs.declared.Listed.the-variants as Lx
 use Rattle.answers.specs.Said.{faultSays, listedSays}
 use Rattle.replies.specs.declared.Reply.{Reply}
-use Rattle.replies.specs.Shows.{Shows, told}
+use Rattle.replies.specs.Shows.{Shows}
 use Rattle.lists.specs.Lists.{ListsMinimal, ListsBlocking}
 use Rattle.lists.proofs.Means.{minimal-all, blocking-all}
 use Rattle.words.specs.Words as word
-use Rattle.report_lines.specs.Lines.{listLine, setLines}
+use Rattle.report_lines.specs.Lines.{setLines}
 use Rattle.report_lines.proofs.Told.{nodes-told, verdict-told, list-told}
 use Rattle.report_parts.specs.Parts.{following, listText, headText, allText}
 use Rattle.report.specs.Report.{listPart, Part, headPart, minimalPart, blockingPart, reportOn, allowance, room}

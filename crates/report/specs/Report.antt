@@ -8,7 +8,6 @@ use lib.ListN.{take}
 use Rattle.meanings.specs.Of as of
 use Rattle.sets.specs.Sets.{nobody}
 use Rattle.meanings.specs.Replies.{Reply}
-use Rattle.meanings.specs.Table.{nodes}
 use Rattle.meanings.specs.Questions.{checkReply, verdictReply, minimalReply, blockingReply}
 use Rattle.answers.specs.Said.{wroteSays}
 use Rattle.answers.specs.declared.Wrote.{Wrote}

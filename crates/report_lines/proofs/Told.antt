@@ -1,5 +1,5 @@
 -- A line is made of the number and the fields that a reply's struct shows, so it is the line of the reply itself.
-use mathlib.Core.Path.{_≡_, refl}
+use mathlib.Core.Path.{_≡_}
 use mathlib.Core.List.{List}
 use Prim.Native.Nat.{ℕ}
 use Rattle.meanings.specs.Replies.{Reply as Told}

@@ -7,12 +7,11 @@ use Prim.Native.Nat.{ℕ, _+_}
 use native.Mathlib.Omega.{arith}
 use borrow.Author.Needs.{needs}
 use borrow.Author.Tests.{eqb-true, eqb-false}
-use Rattle.meanings.specs.Table.{control, level, threshold}
 use Rattle.meanings.specs.Faults.{Check, sound, shapeFault, badControl, badLevel, surplus}
 use Rattle.meanings.specs.Questions.{onCheck}
 use Rattle.tables.specs.Heads.{headsBefore}
 use Rattle.tables.proofs.Heads.{head-step, inner-step, before-le}
-use Rattle.faults.specs.Walk.{counted, highest}
+use Rattle.faults.specs.Walk.{counted}
 use Rattle.faults.proofs.Laws.{meets-2, meets-3, meets-4, meets-5, shapely, high-control, fit-control, high-level, fit-level, one-too-many, no-head, room-left, zero-threshold, some-threshold}
 use Rattle.faults.proofs.shape.Statement.{statement}
 use Rattle.faults.proofs.shape.Tie as tie

@@ -1,7 +1,7 @@
 -- Six fields take at most 1,092 bytes, so the line fits; what writing it answers is its length.
 use borrow.Author.Needs.{needs}
 use native.Mathlib.Omega.{arith}
-use Prim.Native.Nat.{ℕ, _^_, _*_, _≤_, _<_}
+use Prim.Native.Nat.{ℕ, _^_, _≤_, _<_}
 use denote.Ref.{now}
 use lib.ListN.{length, getD}
 use Rattle.fields.specs.Fields.{lineOf}

@@ -1,10 +1,6 @@
 -- Each kind of field is written by its own writer.
 use borrow.Author.Needs.{needs}
-use mathlib.Core.Path.{sym, subst}
-use Prim.Native.Nat.{ℕ, _≤_}
 use denote.Ref.{now}
-use lib.ListN.{length}
-use Rattle.decimal.specs.Bytes.{Written}
 use Rattle.fields.specs.Fields.{fieldText}
 use Rattle.fields.proofs.Sorts.{kind-fits, kind-written, no-kind}
 use Rattle.fields.proofs.put_text.Statement.{statement}

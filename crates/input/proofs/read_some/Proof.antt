@@ -1,6 +1,5 @@
 -- The answer of the read is what the step means, and the system says that it moves no more than it is lent.
 use mathlib.Core.Path.{sym, subst}
-use lib.IntN.{ℤ}
 use lib.ListN.{length}
 use mir.Syntax.{w64}
 use mir.Facts.{toZ-ofZ}

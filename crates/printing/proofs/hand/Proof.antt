@@ -1,24 +1,22 @@
--- What is taken is counted.
+-- The bytes are those of the line, and what is taken is counted.
 use borrow.Author.Needs.{needs}
-use native.Mathlib.Omega.{arith}
-use native.Mathlib.Nat.{zero-add}
-use mathlib.Core.Path.{sym}
+use Prim.Native.Nat.{ℕ}
+use mathlib.Core.Path.{ap}
 use lib.ListN.{length}
-use denote.Ref.{now}
-use Rattle.printing.specs.Printing.{Handed}
+use Rattle.printing.proofs.Laws.{handed-counted}
 use Rattle.printing.proofs.hand.Statement.{statement}
 use Rattle.printing.proofs.hand.Tie as tie
 
 write-all-requires : tie.Need-write-all-requires
 write-all-requires c κs = search needs
 
-returns : tie.Need-returns
-unfolding Handed
-returns c = (sym (zero-add _), omega (arith, c .before .before .before .pre))
+counted-requires : tie.Need-counted-requires
+counted-requires c κs = search needs
 
-returns-2 : tie.Need-returns-2
-unfolding Handed
-returns-2 c = tt
+returns : tie.Need-returns
+returns c =
+    let s = c .before .before .before .before in
+    handed-counted _ _ (c .before .write-all .result) _ _ (c .counted .ensures) (ap (length {A = ℕ}) (s .pre .0)) (s .pre .1)
 
 pub hand-spec : {M : Type 1} → statement M
-hand-spec = tie.close (tie.spec write-all-requires returns returns-2)
+hand-spec = tie.close (tie.spec write-all-requires counted-requires returns)

@@ -2,9 +2,9 @@
 use borrow.Author.Needs.{needs}
 use native.Mathlib.Omega.{arith}
 use Prim.Native.Nat.{ℕ, _+_, _^_, _≤_, _<_}
-use mathlib.Core.Path.{_≡_, sym, ap}
+use mathlib.Core.Path.{_≡_, sym}
 use denote.Ref.{now}
-use lib.ListN.{length, take, getD, length-take}
+use lib.ListN.{length, getD, length-take}
 use lib.Seq.{length-take-le}
 use Rattle.fields.specs.Fields.{lineOf}
 use Rattle.fields.proofs.Laws.{line-most}
@@ -25,8 +25,8 @@ counted p = omega (arith, p .put-line .ensures .count, most (p .before .before))
 -- what was handed over, where it was
 handed : (c : tie.After-known-told) →
     let e = c .before in
-    let p = e .before .before .before .before .before in
-    (e .handed .given .0 .0 ≡ 0 + length (take (p .put-line .result) (p .put-line .last .0))) × (e .handed .given .0 .0 ≤ 0 + 1092)
+    let a = e .before .before .before .before .before .before .before .before .args in
+    (e .handed .given .0 .0 ≡ 0 + length (lineOf (now (a .fields)))) × (e .handed .given .0 .0 ≤ 0 + 1092)
 handed c = let e = c .before in handed-up _ _ _ _ _ (e .handed .given .1) (e .before .before .hand .ensures)
 
 slice-aggregate-put-line : tie.Need-slice-aggregate-put-line
@@ -47,7 +47,7 @@ slice-aggregate-hand c = sym (length-take-le _ _ (array-share-prefix-line (c .be
 hand-requires : tie.Need-hand-requires
 hand-requires c κs =
     let p = c .before .before in
-    omega (arith, counted p, length-take (p .put-line .result) (p .put-line .last .0))
+    (front-taken _ _ _ _ (p .put-line .ensures), omega (arith, counted p, length-take (p .put-line .result) (p .put-line .last .0)))
 
 enum-known-handed : tie.Need-enum-known-handed
 enum-known-handed c = search needs
@@ -65,10 +65,7 @@ add-t11 c =
 
 returns-2 : tie.Need-returns-2
 unfolding Handed
-returns-2 c =
-    let p = c .before .before .before .before .before .before in
-    let e = ap (length {A = ℕ}) (front-taken _ _ _ _ (p .put-line .ensures)) in
-    (omega (arith, handed c .0, e), omega (arith, handed c .1))
+returns-2 c = (omega (arith, handed c .0), omega (arith, handed c .1))
 
 pub print-spec : {M : Type 1} → statement M
 print-spec =

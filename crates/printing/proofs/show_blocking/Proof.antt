@@ -3,7 +3,6 @@ use borrow.Author.Needs.{needs}
 use native.Mathlib.Omega.{arith}
 use Prim.Native.Nat.{ℕ}
 use mathlib.Core.Path.{_≡_, sym, ap, _∙_}
-use mathlib.Core.List.{List}
 use denote.Ref.{now}
 use lib.ListN.{take, length-take}
 use lib.Seq.{length-take-le}

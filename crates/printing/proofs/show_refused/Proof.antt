@@ -1,5 +1,6 @@
 -- The report is that one line.
 use borrow.Author.Needs.{needs}
+use mathlib.Core.Path.{_∙_}
 use Rattle.printing.proofs.Laws.{all-handed}
 use Rattle.printing.proofs.show_refused.Statement.{statement}
 use Rattle.printing.proofs.show_refused.Tie as tie
@@ -14,7 +15,9 @@ print-requires : tie.Need-print-requires
 print-requires c κs = search needs
 
 returns : tie.Need-returns
-returns c = all-handed _ _ _ _ (c .before .before .refused .ensures .comes) (c .print .ensures)
+returns c =
+    let l = c .before .before in
+    all-handed _ _ _ _ (l .refused .ensures .comes ∙ l .before .before .pre) (c .print .ensures)
 
 pub show-refused-spec : {M : Type 1} → statement M
 show-refused-spec =

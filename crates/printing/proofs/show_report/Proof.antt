@@ -4,7 +4,6 @@ use mathlib.Core.Path.{refl, sym, _∙_}
 use lib.Seq.{length-take-le}
 use Rattle.report_lines.proofs.Told.{refused-told}
 use Rattle.report.proofs.Whole.{words-within, good-sheet, bad-sheet}
-use Rattle.printing.proofs.Laws.{all-as}
 use Rattle.printing.proofs.show_report.Statement.{statement}
 use Rattle.printing.proofs.show_report.Tie as tie
 
@@ -21,14 +20,13 @@ of-read-requires : tie.Need-of-read-requires
 of-read-requires c κs = search needs
 
 show-refused-requires : tie.Need-show-refused-requires
-show-refused-requires c κs = search needs
+show-refused-requires c κs =
+    let m = c .before in
+    let r = m .before .before .read-sheet in
+    refused-told (c .of-read .result) _ (c .of-read .ensures) ∙ bad-sheet _ _ _ (r .result) (r .ensures) refl (m .match .keys2)
 
 returns : tie.Need-returns
-returns c =
-    let o = c .before in
-    let m = o .before in
-    let r = m .before .before .read-sheet in
-    all-as _ _ _ (refused-told (o .of-read .result) _ (o .of-read .ensures) ∙ bad-sheet _ _ _ (r .result) (r .ensures) refl (m .match .keys2)) (c .show-refused .ensures)
+returns c = c .show-refused .ensures
 
 array-share-prefix-table : tie.Need-array-share-prefix-table
 array-share-prefix-table c =
@@ -41,13 +39,13 @@ slice-aggregate-show-table : tie.Need-slice-aggregate-show-table
 slice-aggregate-show-table c = sym (length-take-le _ _ (array-share-prefix-table (c .before)))
 
 show-table-requires : tie.Need-show-table-requires
-show-table-requires c κs = search needs
+show-table-requires c κs =
+    let e = c .before .before in
+    let r = e .before .before .before .read-sheet in
+    good-sheet _ _ _ _ (r .ensures) refl _ (e .read .given .1)
 
 returns-2 : tie.Need-returns-2
-returns-2 c =
-    let e = c .before .before .before in
-    let r = e .before .before .before .read-sheet in
-    all-as _ _ _ (good-sheet _ _ _ _ (r .ensures) refl _ (e .read .given .1)) (c .show-table .ensures)
+returns-2 c = c .show-table .ensures
 
 pub show-report-spec : {M : Type 1} → statement M
 show-report-spec =

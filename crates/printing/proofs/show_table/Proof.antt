@@ -1,8 +1,8 @@
--- Each part stands right behind those before it, and all of them are the report.
+-- Each part stands right behind those before it, and all of them are the report on the sheet.
 use borrow.Author.Needs.{needs}
 use native.Mathlib.Omega.{arith}
 use Prim.Native.Nat.{ℕ, _+_, _≤_}
-use mathlib.Core.Path.{_≡_, refl}
+use mathlib.Core.Path.{_≡_}
 use mathlib.Core.List.{List, _++_}
 use denote.Ref.{now}
 use lib.ListN.{length}
@@ -20,7 +20,7 @@ unfolding reportOn
 stands-all t = stands-whole (headPart t ++ (minimalPart t ++ blockingPart t))
 
 abbrev start : tie.After-known-told → tie.Start
-start k = k .before .before .before .before .before
+start k = k .before .before .before .before .before .before
 
 head-shown : (k : tie.After-known-told) →
     (k .before .head .given .0 .0 ≡ 0 + length (headPart (table (start k)))) × (k .before .head .given .0 .0 ≤ 0 + 2184)
@@ -73,7 +73,7 @@ returns-3 c =
     let m = c .before in
     let k = before-minimal m in
     let t = table (start k) in
-    all-handed (headPart t ++ (minimalPart t ++ blockingPart t)) _ 2240784 _ refl
+    all-handed (headPart t ++ (minimalPart t ++ blockingPart t)) _ 2240784 _ (start k .pre)
     (handed-more (headPart t) (minimalPart t ++ blockingPart t) 0 2184 _ 2238600 (head-shown k) (c .show-blocking .result)
     (handed-more (minimalPart t) (blockingPart t) _ 1119300 _ 1119300 (minimal-shown m) (c .show-blocking .result) (c .show-blocking .ensures)))
 

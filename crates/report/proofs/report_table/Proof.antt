@@ -2,12 +2,11 @@
 use borrow.Author.Needs.{needs}
 use native.Mathlib.Omega.{arith}
 use Prim.Native.Nat.{ℕ}
-use mathlib.Core.Path.{_≡_, sym, subst}
+use mathlib.Core.Path.{sym, subst}
 use mathlib.Core.List.{List}
 use denote.Ref.{now}
-use lib.ListN.{length, length-take}
+use lib.ListN.{length-take}
 use lib.Seq.{length-take-le}
-use Rattle.meanings.specs.Replies.{Reply as Told}
 use Rattle.answers.specs.Said.{wroteSays}
 use Rattle.replies.specs.Shows.{Shows}
 use Rattle.sheets.specs.Promises.{Put}

@@ -1,5 +1,4 @@
 -- By cases of the two tests.
-use mathlib.Core.Path.{refl}
 use borrow.Author.Tests.{eq-eqb, ne-eqb}
 use Rattle.words.specs.Words.{wordText}
 use Rattle.report_lines.specs.Lines.{answerText}
