@@ -45,7 +45,8 @@ fn hand(fields: &[u64], bytes: &[u8]) -> Shown
     counted(io::write_all(STDOUT_FILENO, bytes), bytes.len())
 }
 
-// A line of up to six fields, behind the bytes that are handed over before it.
+// A line of up to six fields, which has at most 1,092 bytes, behind the bytes that are handed over before it. A report has some two million
+// bytes at the most; the bounds on how many are handed over already are there so that the counts can be added.
 fn print(at: usize, fields: &[u64]) -> Shown
     requires { ⌜ (at ≤ 4000000) × (length (now fields) ≤ 12) ⌝ }
     ensures { λ o. ⌜ Handed (lineOf (now (fields .entry))) at 1092 o ⌝ }

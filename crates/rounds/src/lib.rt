@@ -13,7 +13,7 @@ pub struct Left {
     pub rounds: u64,
 }
 
-// Whether `with` satisfies the quorum set of node v.
+// Whether `with` satisfies the quorum set of node v, whose inner sets go three levels down at the most.
 pub fn satisfied(t: &[u64], heads: &[u64], with: u64, v: u64) -> bool
     requires { ⌜ Headed (now t) (now heads) × (v < nodesOf (now t)) ⌝ }
     ensures { λ o. ⌜ o ≡ satisfiedIs (now (t .entry)) with v ⌝ }
