@@ -5,7 +5,7 @@ use mathlib.Core.List.{List, [], _∷_}
 use Prim.Native.Nat.{ℕ}
 use Rattle.sets.specs.Sets.{nobody}
 use Rattle.meanings.specs.Replies.{reply, _is_, Place, Nodes, Records, Answer, Set, Rounds, First, Second, Count, Visits}
-use Rattle.meanings.specs.Rows.{nodesOf, line, table, Row, check, quorum, greatest, blocks, verdict, intact, minimal, blocking, Every, computing}
+use Rattle.meanings.specs.Rows.{nodesOf, line, table, Row, check, quorum, greatest, verdict, intact, minimal, blocking, Every, computing}
 use Rattle.meanings.specs.Points.{trio, pairs, single, nest, enough, room}
 
 -- Lone: both wait for the second.
@@ -37,10 +37,6 @@ further =
     -- a quorum that the walk meets is not listed where a smaller one lies inside it
     minimal lone enough room (reply 0 (Count is 1 ∷ Visits is 7 ∷ [])) (nodesOf (1 ∷ []) ∷ [])
     ∷ blocking lone enough room (reply 0 (Count is 1 ∷ Visits is 7 ∷ [])) (nodesOf (1 ∷ []) ∷ [])
-    -- an inner set's members are no entries of the outer set
-    ∷ blocks nest (nodesOf (0 ∷ [])) 0 (reply 0 (Answer is 1 ∷ []))
-    ∷ blocks nest (nodesOf (1 ∷ [])) 0 (reply 0 (Answer is 0 ∷ []))
-    ∷ blocks nest (nodesOf (1 ∷ 2 ∷ [])) 0 (reply 0 (Answer is 1 ∷ []))
     -- one node
     ∷ minimal single enough room (reply 0 (Count is 1 ∷ Visits is 3 ∷ [])) (nodesOf (0 ∷ []) ∷ [])
     ∷ blocking single enough room (reply 0 (Count is 1 ∷ Visits is 3 ∷ [])) (nodesOf (0 ∷ []) ∷ [])
@@ -90,7 +86,6 @@ further =
     ∷ check (1 ∷ 8 ∷ 0 ∷ 1 ∷ []) (reply 5 (Place is 2 ∷ []))
     ∷ check (2 ∷ 1 ∷ 1 ∷ 8 ∷ []) (reply 7 (Place is 1 ∷ []))
     ∷ verdict trio (nodesOf (3 ∷ [])) enough (reply 8 ([]))
-    ∷ blocks trio nobody 3 (reply 8 ([]))
     ∷ []
 
 pub further-hold : Every further

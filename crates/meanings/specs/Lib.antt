@@ -11,3 +11,4 @@ pub mod Rows
 pub mod Points
 pub mod Further
 pub mod Readings
+pub mod Blocks

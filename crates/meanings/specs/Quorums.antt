@@ -62,6 +62,14 @@ module _ (n : ℕ) (s : ℕ → ℕ → Bool) where
   unfoldable pub intactNodes : ℕ → ℕ
   intactNodes b = setOf n (intact b)
 
-  -- b blocks node v when the nodes outside b do not satisfy v's quorum set.
+  -- b blocks node v when v is in b, or when the nodes outside b do not satisfy v's quorum set.
   unfoldable pub blocks : ℕ → ℕ → Bool
-  blocks b v = not (s (everyone n ∖ b) v)
+  blocks b v = has b v || not (s (everyone n ∖ b) v)
+
+  -- The papers say it by slices: a slice of v is a set that holds v and satisfies v's quorum set, and b overlaps every slice of v when
+  -- it has a node in common with each. That the two are the same is a theorem (theory, Blocks).
+  unfoldable pub slice : ℕ → ℕ → Bool
+  slice v q = has q v && s q v
+
+  unfoldable pub overlapsSlices : ℕ → ℕ → Bool
+  overlapsSlices b v = allSets n (λ q. not (slice v q) || meets b q)

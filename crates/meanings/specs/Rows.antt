@@ -11,7 +11,7 @@ use Rattle.sets.specs.Listing.{before, subsets, allSets, someSet, setsThat}
 use Rattle.meanings.specs.Table.{records, control, members, threshold, level, heads, nodes, headOf, innerOf, innerSets, entries, satisfies, satisfied}
 use Rattle.meanings.specs.Faults as Faults
 use Rattle.meanings.specs.Quorums as Quorums
-use Rattle.meanings.specs.Quorums.{intersecting, disjointQuorums, minimalQuorums, minimalBlockingSets, intactNodes}
+use Rattle.meanings.specs.Quorums.{intersecting, disjointQuorums, minimalQuorums, minimalBlockingSets, intactNodes, overlapsSlices}
 use Rattle.meanings.specs.Rounds as Rounds
 use Rattle.meanings.specs.Rounds.{survivors}
 use Rattle.meanings.specs.Trees as Trees
@@ -62,11 +62,12 @@ abbrev pub saysYes : Reply → Bool
 saysYes r = eqb (value r Answer) 1
 
 -- What the operation answers and what the definitions say of the table. Of a verdict: whether all quorums intersect, and whether
--- the pair are two quorums with no node in common. Of a list: what the walk of its tree puts there, and all sets of that kind.
+-- the pair are two quorums with no node in common. Of a list: what the walk of its tree puts there, and all sets of that kind. Of a set
+-- that may block a node: whether it overlaps every slice of the node.
 abbrev pub asked : Row → Told
 asked (check t r) = told (checkReply t) []
 asked (quorum t d u r) = told (quorumReply t d u) []
-asked (blocks t b v r) = told (blocksReply t b v) []
+asked (blocks t b v r) = told (blocksReply t b v) (answered r (test (overlapsSlices (nodes t) (satisfied t) b v) ∷ []))
 asked (greatest t d u r) = told (greatestReply t d u) (answered r (sets (survivors (nodes t) (satisfied t) d u ∷ []) ∷ []))
 asked (verdict t d allowance r) =
     told (verdictReply t d allowance)
@@ -83,11 +84,11 @@ asked (blocking t allowance room r l) =
     (answered r (sets (listPuts (list (blockingTree (nodes t) (satisfied t)))) ∷ sets (minimalBlockingSets (nodes t) (satisfied t)) ∷ []))
 
 -- What the row says: yes exactly when all quorums intersect, and otherwise the pair; the set of those who are left, of the intact
--- nodes; the list.
+-- nodes; the list; yes exactly when every slice is overlapped.
 abbrev pub said : Row → Told
 said (check t r) = told r []
 said (quorum t d u r) = told r []
-said (blocks t b v r) = told r []
+said (blocks t b v r) = told r (answered r (test (saysYes r) ∷ []))
 said (greatest t d u r) = told r (answered r (sets (value r Set ∷ []) ∷ []))
 said (verdict t d allowance r) = told r (answered r (test (saysYes r) ∷ test (not (saysYes r)) ∷ []))
 said (intact t b allowance r) = told r (answered r (sets (value r Set ∷ []) ∷ []))
@@ -103,5 +104,5 @@ Every l = map asked l ≡ map said l
 
 -- All that a row computes with: a proof that says `unfolding computing` sees through each of these.
 unfoldable pub computing : Unit {0}
-unfolding has everyone _∖_ size within smaller meets setOf each keep all some from before subsets allSets someSet setsThat trailingZeros records control members threshold level heads nodes headOf innerOf innerSets entries satisfies satisfied Faults.firstFault Faults.badCount Faults.badControl Faults.badLevel Faults.surplus Faults.noThreshold Faults.strangers Faults.tooHigh Faults.shapeFault Faults.entryFault Faults.check Quorums.ground Quorums.quorum Quorums.greatest Quorums.holdsQuorum Quorums.intersecting Quorums.disjointQuorums Quorums.minimalQuorum Quorums.blockingSet Quorums.minimalBlocking Quorums.minimalQuorums Quorums.minimalBlockingSets Quorums.dset Quorums.intact Quorums.intactNodes Quorums.blocks Rounds.round Rounds.lastRound Rounds.roundsFrom Rounds.leftFrom Rounds.rounds Rounds.survivors Trees.quorumTree Trees.overHalf Trees.pairAt Trees.verdictTree Trees.minimalTree Trees.blockingFrom Trees.blockingTree Trees.walk Trees.list Intact.nextU Intact.roundsFrom Intact.intactSearch table checkReply quorumReply greatestReply blocksReply verdictReply minimalReply blockingReply intactReply
+unfolding has everyone _∖_ size within smaller meets setOf each keep all some from before subsets allSets someSet setsThat trailingZeros records control members threshold level heads nodes headOf innerOf innerSets entries satisfies satisfied Faults.firstFault Faults.badCount Faults.badControl Faults.badLevel Faults.surplus Faults.noThreshold Faults.strangers Faults.tooHigh Faults.shapeFault Faults.entryFault Faults.check Quorums.ground Quorums.quorum Quorums.greatest Quorums.holdsQuorum Quorums.intersecting Quorums.disjointQuorums Quorums.minimalQuorum Quorums.blockingSet Quorums.minimalBlocking Quorums.minimalQuorums Quorums.minimalBlockingSets Quorums.dset Quorums.intact Quorums.intactNodes Quorums.blocks Quorums.slice Quorums.overlapsSlices Rounds.round Rounds.lastRound Rounds.roundsFrom Rounds.leftFrom Rounds.rounds Rounds.survivors Trees.quorumTree Trees.overHalf Trees.pairAt Trees.verdictTree Trees.minimalTree Trees.blockingFrom Trees.blockingTree Trees.walk Trees.list Intact.nextU Intact.roundsFrom Intact.intactSearch table checkReply quorumReply greatestReply blocksReply verdictReply minimalReply blockingReply intactReply
 computing = tt

@@ -1,7 +1,7 @@
 -- What an answer of number 0 means. A table's satisfaction is monotone, so the union of all quorums in u is itself a quorum, or
 -- empty: the largest quorum there. A round that is not the last drops a node and leaves one, so k nodes to start with take 1 to k.
 use mathlib.Core.Path.{_≡_, refl, sym, ap, _∙_, subst}
-use mathlib.Core.Bool.{Bool, true, false, not}
+use mathlib.Core.Bool.{Bool, true, false, not, _||_}
 use mathlib.Core.Logic.{_⊎_, inl, inr, ⊎-elim}
 use mathlib.Core.List.{List, [], _∷_}
 use Prim.Native.Nat.{ℕ, _^_, _<_, _≤_}
@@ -10,12 +10,12 @@ use borrow.Author.Tests.{eqb-true, eqb-false, ltb-true}
 use lib.Dec.{eqb, ltb}
 use lib.ListN.{length}
 use lib.Pow.{pow-pos}
-use Rattle.sets.specs.Sets.{nobody, everyone, _∖_, within, size}
+use Rattle.sets.specs.Sets.{has, nobody, everyone, _∖_, within, size}
 use Rattle.sets.proofs.Bools.{either}
 use Rattle.sets.proofs.Members.{within-sub, sub-within}
 use Rattle.meanings.specs.Table.{nodes, satisfied}
 use Rattle.meanings.specs.Faults.{Check, sound, fault, check}
-use Rattle.meanings.specs.Quorums.{quorum, greatest, blocks}
+use Rattle.meanings.specs.Quorums.{quorum, greatest, blocks, overlapsSlices}
 use Rattle.meanings.specs.Rounds.{rounds}
 use Rattle.meanings.specs.Replies.{Reply, reply, _is_, Answer, Set, Rounds, rank, value}
 use Rattle.meanings.specs.Questions.{onCheck, inNodes, yesOrNo, quorumReply, greatestReply, blocksReply}
@@ -26,12 +26,9 @@ use Rattle.answers.specs.Said.{judgedSays, greatestSays}
 use Rattle.theory.proofs.Quorum.{quorum-is, is-quorum}
 use Rattle.theory.proofs.Greatest.{greatest-lt, greatest-sub, greatest-has, greatest-quorum, greatest-unique}
 use Rattle.theory.proofs.Rounds.{rounds-none, rounds-some}
+use Rattle.theory.proofs.Blocks.{blocks-slices}
 use Rattle.satisfaction.proofs.Monotone.{satisfied-monotone}
 use Rattle.faults.proofs.Opening.{inside-lt}
-
-not-not : (b : Bool) → not (not b) ≡ b
-not-not true = refl
-not-not false = refl
 
 -- g is the largest quorum in u with d counted out: it lies in u, every quorum in u lies in it, and it is a quorum or nobody
 pub record Largest (t : List ℕ) (d u g : ℕ) : Type 0 where
@@ -131,6 +128,13 @@ judged-back sound false b false x e = let z : _≡_ {A = ℕ} 0 8 = ap (λ (y : 
 judged-back (fault k p) a b true x e = let z : _≡_ {A = ℕ} 3 0 = ap firstField e in absurd (omega arith)
 judged-back (fault k p) a b false x e = let z : _≡_ {A = ℕ} 3 0 = ap firstField e in absurd (omega arith)
 
+-- whether b blocks node v, as it is answered: v is in b, or the nodes outside b do not satisfy v's set; b overlaps every slice of v
+pub record Blocking (t : List ℕ) (b v : ℕ) (yes : Bool) : Type 0 where
+  pub checked : check t ≡ sound
+  pub node : v < nodes t
+  pub by-the-rest : (has b v || not (satisfied t (everyone (nodes t) ∖ b) v)) ≡ yes
+  pub by-slices : overlapsSlices (nodes t) (satisfied t) b v ≡ yes
+
 module _ (t : List ℕ) (o : Judged) (yes : Bool) (answer : judgedSays o ≡ yesOrNo yes) where
   pub quorum-means : (d u : ℕ) → judgedSays o ≡ quorumReply t d u → (check t ≡ sound) × (quorum (nodes t) (satisfied t) d u ≡ yes)
   unfolding quorumReply
@@ -139,11 +143,16 @@ module _ (t : List ℕ) (o : Judged) (yes : Bool) (answer : judgedSays o ≡ yes
       let w = judged-back (check t) (within d (everyone n)) (within u (everyone n)) yes (quorum n (satisfied t) d u) (sym answer ∙ says) in
       (w .0, w .3)
 
-  -- the set of node v is not satisfied by the nodes outside b
-  pub blocks-means : (b v : ℕ) → judgedSays o ≡ blocksReply t b v → (check t ≡ sound) × (v < nodes t) × (satisfied t (everyone (nodes t) ∖ b) v ≡ not yes)
+  pub blocks-means : (b v : ℕ) → judgedSays o ≡ blocksReply t b v → Blocking t b v yes
   unfolding blocksReply blocks
   blocks-means b v says =
       let n = nodes t in
-      let x = satisfied t (everyone n ∖ b) v in
-      let w = judged-back (check t) (within b (everyone n)) (ltb v n) yes (not x) (sym answer ∙ says) in
-      (w .0, ltb-true v n (w .2), sym (not-not x) ∙ ap not (w .3))
+      let s = satisfied t in
+      let w = judged-back (check t) (within b (everyone n)) (ltb v n) yes (blocks n s b v) (sym answer ∙ says) in
+      let l = ltb-true v n (w .2) in
+      record {
+        checked = w .0;
+        node = l;
+        by-the-rest = w .3;
+        by-slices = sym (blocks-slices n s (satisfied-monotone t) b v (inside-lt b n (w .1)) l) ∙ w .3;
+      }

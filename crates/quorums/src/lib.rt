@@ -50,11 +50,14 @@ fn greatest_of(t: &[u64], out: u64, set: u64) -> Greatest
     }
 }
 
-// Whether a set blocks node v: its quorum set is judged on the nodes outside the set.
+// Whether a set blocks node v: v is in it, or v's quorum set, judged on the nodes outside it, is not satisfied.
 fn blocked(t: &[u64], set: u64, v: u64) -> bool
     requires { ⌜ (check (now t) ≡ sound) × (v < nodesOf (now t)) ⌝ }
     ensures { λ o. ⌜ o ≡ of.blocks (now (t .entry)) set v ⌝ }
 {
+    if sets::contains(set, v) {
+        return true;
+    }
     let mut heads = [0u64; 64];
     let nodes = tables::find_heads(t, &mut heads);
     !rounds::satisfied(t, &heads, sets::without(sets::all(nodes), set), v)
@@ -88,7 +91,7 @@ pub fn greatest_quorum(table: &[u64], out: u64, within: u64) -> Greatest
     greatest_of(table, out, within)
 }
 
-// Does this set block this node: do the nodes outside it not satisfy the node's quorum set?
+// Does this set block this node: is the node in it, or do the nodes outside it not satisfy the node's quorum set?
 pub fn blocks_node(table: &[u64], set: u64, node: u64) -> Judged
     ensures { λ r. ⌜ judgedSays r ≡ blocksReply (now (table .entry)) set node ⌝ }
 {

@@ -8,3 +8,4 @@ pub mod Verdict
 pub mod Minimal
 pub mod Blocking
 pub mod Intact
+pub mod Blocks

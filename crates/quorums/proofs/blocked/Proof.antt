@@ -1,13 +1,21 @@
--- Node v's quorum set is judged on all nodes but those of the set.
-use mathlib.Core.Path.{ap, _∙_}
+-- A node of the set is blocked; of another node the quorum set is judged on all nodes but those of the set.
+use mathlib.Core.Path.{sym, ap, _∙_}
 use mathlib.Core.Bool.{not}
 use Prim.Native.Nat.{ℕ}
+use native.Mathlib.Omega.{arith}
 use Rattle.sets.specs.Sets.{everyone, _∖_}
-use Rattle.meanings.specs.Table.{satisfied}
-use Rattle.meanings.specs.Quorums.{blocks}
+use Rattle.meanings.specs.Table.{nodes, satisfied}
+use Rattle.theory.proofs.Blocks.{itself, by-others}
+use Rattle.tables.proofs.Sound.{sound-table}
 use borrow.Author.Needs.{needs}
 use Rattle.quorums.proofs.blocked.Statement.{statement}
 use Rattle.quorums.proofs.blocked.Tie as tie
+
+contains-requires : tie.Need-contains-requires
+contains-requires c κs =
+    let s = c .before in
+    let few = sound-table (s .args .t .now) (s .pre .0) .nodes-le in
+    omega (arith, s .pre .1)
 
 slice-aggregate-find-heads : tie.Need-slice-aggregate-find-heads
 slice-aggregate-find-heads c = search needs
@@ -28,26 +36,37 @@ satisfied-requires : tie.Need-satisfied-requires
 satisfied-requires c κs = search needs
 
 returns : tie.Need-returns
-unfolding blocks
 returns c =
+    let C = c .before in
+    let s = C .before .before in
+    let t = s .args .t .now in
+    sym (itself (nodes t) (satisfied t) (s .args .set) (s .args .v) (sym (C .contains .ensures) ∙ c .if1 .taken))
+
+returns-2 : tie.Need-returns-2
+returns-2 c =
     let W = c .before in
     let A = W .before in
     let F = A .before .before .before in
-    let s = F .before .before .before in
+    let E = F .before .before in
+    let C = E .before in
+    let s = C .before .before in
     let t = s .args .t .now in
     ap not
     (c .satisfied .ensures
     ∙ ap (λ (u : ℕ). satisfied t u (s .args .v))
     (W .without .ensures ∙ ap (λ (m : ℕ). m ∖ s .args .set) (A .all .ensures ∙ ap everyone (F .find-heads .ensures .1))))
+    ∙ sym (by-others (nodes t) (satisfied t) (s .args .set) (s .args .v) (sym (C .contains .ensures) ∙ E .if1 .left))
 
 pub blocked-spec : {M : Type 1} → statement M
 blocked-spec =
     tie.close
     (tie.spec
+    contains-requires
+    returns
     slice-aggregate-find-heads
     find-heads-requires
     slice-aggregate-satisfied
     all-requires
     without-requires
     satisfied-requires
-    returns)
+    returns-2)
