@@ -80,7 +80,7 @@ breezedrum_reply breezedrum_quorum(const uint64_t *table, size_t words, uint64_t
 /* The greatest quorum within `set`, with `out` counted out. 0: set, rounds. 1 to 7; 8. */
 breezedrum_reply breezedrum_greatest(const uint64_t *table, size_t words, uint64_t out, uint64_t set);
 
-/* Does `set` block `node`: is it in `set`, or do the nodes outside `set` not satisfy it? 0: answer. 1 to 7; 8. */
+/* Does `set` block `node`: is `node` in `set`, or do the nodes outside `set` not satisfy it? 0: answer. 1 to 7; 8. */
 breezedrum_reply breezedrum_blocks(const uint64_t *table, size_t words, uint64_t set, uint64_t node);
 
 /* Do all quorums intersect, with `out` counted out? 0: answer, visits, and with a no the pair first, second. 1 to 7; 8; 9; 13. */

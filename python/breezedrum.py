@@ -197,7 +197,7 @@ class Checker:
         return self._ask("greatest", "set rounds", _words(table), mask(out), mask(within))
 
     def blocks(self, table: Table, chosen: Nodes, node: int) -> Reply:
-        """Does `chosen` block `node`: is it in `chosen`, or do the nodes outside `chosen` not satisfy it?"""
+        """Does `chosen` block `node`: is `node` in `chosen`, or do the nodes outside `chosen` not satisfy it?"""
         return self._ask("blocks", "answer", _words(table), mask(chosen), number(node, "the node"))
 
     # Searches

@@ -71,7 +71,7 @@ pub fn greatest(table: &[u64], out: u64, set: u64) -> Reply {
     unsafe { c::breezedrum_greatest(table.as_ptr(), table.len(), out, set) }
 }
 
-/// Does `set` block `node`: is it in `set`, or do the nodes outside `set` not satisfy it?
+/// Does `set` block `node`: is `node` in `set`, or do the nodes outside `set` not satisfy it?
 pub fn blocks(table: &[u64], set: u64, node: u64) -> Reply {
     unsafe { c::breezedrum_blocks(table.as_ptr(), table.len(), set, node) }
 }

@@ -33,7 +33,7 @@ pub extern "C" fn breezedrum_greatest(table: &[u64], out: u64, set: u64) -> Repl
     replies::of_greatest(quorums::greatest_quorum(table, out, set))
 }
 
-// Does `set` block `node`?
+// Does `set` block `node`: is `node` in `set`, or do the nodes outside `set` not satisfy it?
 #[no_mangle]
 pub extern "C" fn breezedrum_blocks(table: &[u64], set: u64, node: u64) -> Reply
     ensures { λ r. ⌜ Shows r (blocksReply (now (table .entry)) set node) ⌝ }

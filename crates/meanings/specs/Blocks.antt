@@ -1,5 +1,6 @@
--- Rows about blocking one node: the small cases that a technician would try, and one for each wrong reading that was thought of. Each row
--- also holds the answer against the slices. The answers are the second house's.
+-- Rows about blocking one node: the small cases that a technician would try, and one for each wrong reading that was thought of; 'not
+-- so' names the readings that the rows below it refuse. Each row also holds the answer against the slices. The answers are the second
+-- house's.
 use mathlib.Core.Path.{refl}
 use mathlib.Core.List.{List, [], _∷_}
 use Prim.Native.Nat.{ℕ}
@@ -35,6 +36,9 @@ blockings =
     -- not so: the set is to block the whole system ({2} is a quorum outside {1}); or the node is to be in no quorum outside the set
     ∷ blocks domino (nodesOf (1 ∷ [])) 0 (reply 0 (Answer is 1 ∷ []))
     ∷ blocks domino (nodesOf (2 ∷ [])) 0 (reply 0 (Answer is 0 ∷ []))
+    -- not so: only the node alone blocks itself, or only the lowest node of a set
+    ∷ blocks domino (nodesOf (0 ∷ 2 ∷ [])) 0 (reply 0 (Answer is 1 ∷ []))
+    ∷ blocks domino (nodesOf (0 ∷ 1 ∷ [])) 1 (reply 0 (Answer is 1 ∷ []))
     -- 8 for the node or the set, though the node be in the set; the table's faults first
     ∷ blocks trio nobody 3 (reply 8 ([]))
     ∷ blocks lone (nodesOf (2 ∷ [])) 0 (reply 8 ([]))

@@ -40,9 +40,6 @@ module _ (t : List ℕ) where
   abbrev pub blocks : (b v : ℕ) → Bool
   blocks = Quorums.blocks (nodes t) (satisfied t)
 
-  abbrev pub overlapsSlices : (b v : ℕ) → Bool
-  overlapsSlices = Quorums.overlapsSlices (nodes t) (satisfied t)
-
   abbrev pub rounds : (d u : ℕ) → ℕ
   rounds = Rounds.rounds (nodes t) (satisfied t)
 

@@ -66,10 +66,10 @@ module _ (n : ℕ) (s : ℕ → ℕ → Bool) where
   unfoldable pub blocks : ℕ → ℕ → Bool
   blocks b v = has b v || not (s (everyone n ∖ b) v)
 
-  -- The papers say it by slices: a slice of v is a set that holds v and satisfies v's quorum set, and b overlaps every slice of v when
-  -- it has a node in common with each. That the two are the same is a theorem (theory, Blocks).
+  -- The papers say it by slices: q is a slice of v when it holds v and satisfies v's quorum set, and b overlaps every slice of v when it
+  -- has a node in common with each. That the two are the same is a theorem (theory, Blocks).
   unfoldable pub slice : ℕ → ℕ → Bool
-  slice v q = has q v && s q v
+  slice q v = has q v && s q v
 
   unfoldable pub overlapsSlices : ℕ → ℕ → Bool
-  overlapsSlices b v = allSets n (λ q. not (slice v q) || meets b q)
+  overlapsSlices b v = allSets n (λ q. not (slice q v) || meets b q)

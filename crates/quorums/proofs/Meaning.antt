@@ -129,8 +129,9 @@ judged-back (fault k p) a b true x e = let z : _≡_ {A = ℕ} 3 0 = ap firstFie
 judged-back (fault k p) a b false x e = let z : _≡_ {A = ℕ} 3 0 = ap firstField e in absurd (omega arith)
 
 -- whether b blocks node v, as it is answered: v is in b, or the nodes outside b do not satisfy v's set; b overlaps every slice of v
-pub record Blocking (t : List ℕ) (b v : ℕ) (yes : Bool) : Type 0 where
+pub record BlocksNode (t : List ℕ) (b v : ℕ) (yes : Bool) : Type 0 where
   pub checked : check t ≡ sound
+  pub set : within b (everyone (nodes t)) ≡ true
   pub node : v < nodes t
   pub by-the-rest : (has b v || not (satisfied t (everyone (nodes t) ∖ b) v)) ≡ yes
   pub by-slices : overlapsSlices (nodes t) (satisfied t) b v ≡ yes
@@ -143,7 +144,7 @@ module _ (t : List ℕ) (o : Judged) (yes : Bool) (answer : judgedSays o ≡ yes
       let w = judged-back (check t) (within d (everyone n)) (within u (everyone n)) yes (quorum n (satisfied t) d u) (sym answer ∙ says) in
       (w .0, w .3)
 
-  pub blocks-means : (b v : ℕ) → judgedSays o ≡ blocksReply t b v → Blocking t b v yes
+  pub blocks-means : (b v : ℕ) → judgedSays o ≡ blocksReply t b v → BlocksNode t b v yes
   unfolding blocksReply blocks
   blocks-means b v says =
       let n = nodes t in
@@ -152,7 +153,8 @@ module _ (t : List ℕ) (o : Judged) (yes : Bool) (answer : judgedSays o ≡ yes
       let l = ltb-true v n (w .2) in
       record {
         checked = w .0;
+        set = w .1;
         node = l;
         by-the-rest = w .3;
-        by-slices = sym (blocks-slices n s (satisfied-monotone t) b v (inside-lt b n (w .1)) l) ∙ w .3;
+        by-slices = sym (blocks-slices n s (satisfied-monotone t) b v l) ∙ w .3;
       }

@@ -11,7 +11,7 @@ use mathlib.Core.Bool.{Bool, true, false, not, _&&_, _||_}
 use mathlib.Core.Logic.{⊎-elim}
 use Prim.Native.Nat.{ℕ, _^_, _<_}
 use lib.Dec.{eqb}
-use lib.Bits.{or-zero-r}
+use lib.Bits.{and-comm, or-zero-r}
 use lib.Pow.{pow-pos}
 use borrow.Author.Tests.{eqb-true, eqb-false, eq-eqb}
 use Rattle.sets.specs.Sets.{has, nobody, everyone, _∪_, _∩_, _∖_, meets, each}
@@ -47,20 +47,20 @@ module _ (n : ℕ) (s : ℕ → ℕ → Bool) where
   not-blocked b v p q = by-others b v p ∙ ap not q
 
   -- ---- slices
-  pub slice-met : (b v q : ℕ) → overlapsSlices n s b v ≡ true → q < 2 ^ n → In q v → s q v ≡ true → meets b q ≡ true
+  slice-met : (b v q : ℕ) → overlapsSlices n s b v ≡ true → q < 2 ^ n → In q v → s q v ≡ true → meets b q ≡ true
   unfolding overlapsSlices slice
   slice-met b v q e h p m =
-      ⊎-elim (λ x. clash (slice n s v q) (and-both (has q v) (s q v) p m) (not-holds (slice n s v q) x)) (λ x. x)
-      (or-cases (not (slice n s v q)) (meets b q) (allSets-at n (λ x. not (slice n s v x) || meets b x) e q h))
+      ⊎-elim (λ x. clash (slice n s q v) (and-both (has q v) (s q v) p m) (not-holds (slice n s q v) x)) (λ x. x)
+      (or-cases (not (slice n s q v)) (meets b q) (allSets-at n (λ x. not (slice n s x v) || meets b x) e q h))
 
-  pub all-met : (b v : ℕ) → ((q : ℕ) → q < 2 ^ n → In q v → s q v ≡ true → meets b q ≡ true) → overlapsSlices n s b v ≡ true
+  all-met : (b v : ℕ) → ((q : ℕ) → q < 2 ^ n → In q v → s q v ≡ true → meets b q ≡ true) → overlapsSlices n s b v ≡ true
   unfolding overlapsSlices slice
   all-met b v f =
-      at-allSets n (λ q. not (slice n s v q) || meets b q) (λ q h.
+      at-allSets n (λ q. not (slice n s q v) || meets b q) (λ q h.
       ⊎-elim
-      (λ x. let w = and-parts (has q v) (s q v) x in or-right (not (slice n s v q)) (meets b q) (f q h (w .0) (w .1)))
-      (λ x. or-left (not (slice n s v q)) (meets b q) (ap not x))
-      (either (slice n s v q)))
+      (λ x. let w = and-parts (has q v) (s q v) x in or-right (not (slice n s q v)) (meets b q) (f q h (w .0) (w .1)))
+      (λ x. or-left (not (slice n s q v)) (meets b q) (ap not x))
+      (either (slice n s q v)))
 
   -- what b misses lies outside b
   missed : (b q : ℕ) → q < 2 ^ n → meets b q ≡ false → Sub q (rest b)
@@ -68,7 +68,7 @@ module _ (n : ℕ) (s : ℕ → ℕ → Bool) where
       ∖-in (everyone n) b i (has-everyone n i (has-below n q i h p)) (fails (has b i) (λ x. none-in (b ∩ q) i (not-meets b q e) (∩-in b q i x p)))
 
   module _ (mono : Monotone s) where
-    -- a larger set blocks what a smaller one does
+    -- a set that contains b blocks whatever b blocks
     pub blocks-grows : (b c v : ℕ) → Sub b c → blocks n s b v ≡ true → blocks n s c v ≡ true
     blocks-grows b c v f e =
         holds (blocks n s c v) (λ x.
@@ -79,8 +79,8 @@ module _ (n : ℕ) (s : ℕ → ℕ → Bool) where
         let q = ∖-out (everyone n) c i p in
         ∖-in (everyone n) b i (q .0) (fails (has b i) (λ y. clash (has c i) (f i y) (q .1)))) (w .1))))
 
-    pub blocks-slices : (b v : ℕ) → b < 2 ^ n → v < n → blocks n s b v ≡ overlapsSlices n s b v
-    blocks-slices b v h l =
+    pub blocks-slices : (b v : ℕ) → v < n → blocks n s b v ≡ overlapsSlices n s b v
+    blocks-slices b v l =
         bool-ext (blocks n s b v) (overlapsSlices n s b v)
         (λ e. all-met b v (λ q k p m. holds (meets b q) (λ x.
         clash (blocks n s b v) e
@@ -89,7 +89,7 @@ module _ (n : ℕ) (s : ℕ → ℕ → Bool) where
         let w = unblocked b v x in
         clash (meets b (rest b))
         (slice-met b v (rest b) e (rest-lt b) (∖-in (everyone n) b v (has-everyone n v l) (w .0)) (w .1))
-        (meets-not b (rest b) (apart-none n b (rest b) h (λ i p. fails (has (rest b) i) (λ y. clash (has b i) p (∖-out (everyone n) b i y .1)))))))
+        (meets-not b (rest b) (and-comm b (rest b) ∙ apart-none n (rest b) b (rest-lt b) (λ i p. ∖-out (everyone n) b i p .1)))))
 
   -- ---- the nodes outside b are a plain quorum, or there are none
   rest-nobody : (b : ℕ) → b ≡ everyone n → rest b ≡ nobody
@@ -131,7 +131,7 @@ module _ (n : ℕ) (s : ℕ → ℕ → Bool) where
                 ∙ unblocked b i (not-holds (blocks n s b i) (each-at n (rest b) (λ v. not (blocks n s b v)) e i p)) .1;
           }
 
-  -- so a DSet is a set that blocks no node outside it, and with which counted out all quorums intersect
+  -- so d is a DSet when it blocks no node outside it and, with d counted out, all quorums intersect
   pub dset-blocks-none : (d : ℕ) → d < 2 ^ n → dset n s d ≡ (intersecting n s d && each n (rest d) (λ v. not (blocks n s d v)))
   unfolding dset
   dset-blocks-none d h = ap (λ (b : Bool). intersecting n s d && b) (blocks-none d h)
