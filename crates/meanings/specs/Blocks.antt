@@ -1,5 +1,5 @@
 -- Rows about blocking one node: the small cases that a technician would try, and one for each wrong reading that was thought of; 'not
--- so' names the readings that the rows below it refuse. Each row also holds the answer against the slices. The answers are the second
+-- so' names the readings that the rows below it refuse. Each answer is also held against the slices. The answers are the second
 -- house's.
 use mathlib.Core.Path.{refl}
 use mathlib.Core.List.{List, [], _∷_}
