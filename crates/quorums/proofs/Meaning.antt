@@ -133,7 +133,7 @@ pub record BlocksNode (t : List ℕ) (b v : ℕ) (yes : Bool) : Type 0 where
   pub checked : check t ≡ sound
   pub set : within b (everyone (nodes t)) ≡ true
   pub node : v < nodes t
-  pub by-the-rest : (has b v || not (satisfied t (everyone (nodes t) ∖ b) v)) ≡ yes
+  pub by-others : (has b v || not (satisfied t (everyone (nodes t) ∖ b) v)) ≡ yes
   pub by-slices : overlapsSlices (nodes t) (satisfied t) b v ≡ yes
 
 module _ (t : List ℕ) (o : Judged) (yes : Bool) (answer : judgedSays o ≡ yesOrNo yes) where
@@ -155,6 +155,6 @@ module _ (t : List ℕ) (o : Judged) (yes : Bool) (answer : judgedSays o ≡ yes
         checked = w .0;
         set = w .1;
         node = l;
-        by-the-rest = w .3;
+        by-others = w .3;
         by-slices = sym (blocks-slices n s (satisfied-monotone t) b v l) ∙ w .3;
       }

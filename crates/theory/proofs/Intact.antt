@@ -10,16 +10,16 @@ use native.Mathlib.Nat.{not-suc-le-zero, pow-suc}
 use native.Mathlib.Omega.{arith}
 use borrow.Author.Tests.{eqb-true, eqb-false, eq-eqb}
 use lib.Dec.{eqb}
-use lib.Pow.{pow-pos, pow-mono}
+use lib.Pow.{pow-mono}
 use Rattle.sets.specs.Sets.{has, nobody, everyone, _∪_, _∩_, _∖_, empty, within, meets, size, setOf}
 use Rattle.sets.proofs.Bools.{either, clash, and-parts, and-both, or-cases, or-left, or-right, not-holds, fails}
-use Rattle.sets.proofs.Members.{In, Sub, has-below, has-everyone, ∪-right, ∪-cases, ∪-lt, ∩-in, ∩-out, ∩-lt, ∖-in, ∖-out, ∖-lt, none-in, everyone-lt, within-sub, sub-within, sub-antisym, setOf-in, setOf-out, setOf-lt}
+use Rattle.sets.proofs.Members.{In, Sub, has-below, ∪-right, ∪-cases, ∪-lt, ∩-in, ∩-out, ∩-lt, ∖-in, ∖-out, ∖-lt, none-in, everyone-lt, within-sub, sub-within, sub-antisym, setOf-in, setOf-out, setOf-lt}
 use Rattle.sets.proofs.Size.{size-lt, size-le, sub-size}
 use Rattle.sets.proofs.Listing.{someSet-at, at-someSet}
 use Rattle.meanings.specs.Quorums.{ground, quorum, greatest, intersecting, dset, intact, intactNodes}
 use Rattle.meanings.specs.Trees.{Pair, Walk, hit, missed}
 use Rattle.meanings.specs.Intact.{intactAre, divided, endedLater, verdict, nextU, onRound, roundsFrom, onPlain, intactSearch}
-use Rattle.theory.proofs.Quorum.{Monotone, Quorum, quorum-is, is-quorum, a-node, delete-quorum, intersecting-is}
+use Rattle.theory.proofs.Quorum.{others as outside, others-lt, others-in, others-out, others-nobody, Monotone, Quorum, quorum-is, is-quorum, a-node, delete-quorum, intersecting-is}
 use Rattle.theory.proofs.Greatest.{greatest-lt, greatest-sub, greatest-has, greatest-quorum}
 use Rattle.theory.proofs.Verdict.{Sound, Decided, all-meet, two-apart, decided, meets-not, apart-none}
 
@@ -40,25 +40,16 @@ more-rounds k j c a u l m h i =
 module _ (n : ℕ) (s : ℕ → ℕ → Bool) where
   -- ---- the nodes outside a set
   abbrev others : ℕ → ℕ
-  others d = everyone n ∖ d
-
-  others-lt : (d : ℕ) → others d < 2 ^ n
-  others-lt d = ∖-lt n (everyone n) d (everyone-lt n)
-
-  others-in : (d i : ℕ) → i < n → has d i ≡ false → In (others d) i
-  others-in d i l p = ∖-in (everyone n) d i (has-everyone n i l) p
-
-  others-out : (d i : ℕ) → In (others d) i → has d i ≡ false
-  others-out d i p = ∖-out (everyone n) d i p .1
+  others = outside n
 
   -- those outside the nodes outside q are those of q
   pub others-others : (q : ℕ) → q < 2 ^ n → others (others q) ≡ q
   others-others q h =
-      sub-antisym n (others (others q)) q (others-lt (others q)) h
+      sub-antisym n (others (others q)) q (others-lt n (others q)) h
       (λ i p. ⊎-elim (λ x. x)
-      (λ x. clash (has (others q) i) (others-in q i (has-below n (others (others q)) i (others-lt (others q)) p) x) (others-out (others q) i p))
+      (λ x. clash (has (others q) i) (others-in n q i (has-below n (others (others q)) i (others-lt n (others q)) p) x) (others-out n (others q) i p .1))
       (either (has q i)))
-      (λ i p. others-in (others q) i (has-below n q i h p) (fails (has (others q) i) (λ x. clash (has q i) p (others-out q i x))))
+      (λ i p. others-in n (others q) i (has-below n q i h p) (fails (has (others q) i) (λ x. clash (has q i) p (others-out n q i x .1))))
 
   pub ground-others : (q : ℕ) → q < 2 ^ n → ground n (others q) ≡ q
   unfolding ground
@@ -89,9 +80,7 @@ module _ (n : ℕ) (s : ℕ → ℕ → Bool) where
         meet = intersecting-is n s d (w .0);
         rest = ⊎-elim
             (λ x. inl (quorum-is n s nobody (others d) x))
-            (λ x. inr (sub-antisym n (others d) nobody (others-lt d) (pow-pos n)
-            (λ i p. clash (has d i) (subst (λ (y : ℕ). In y i) (sym (eqb-true d (everyone n) x)) (∖-out (everyone n) d i p .0)) (others-out d i p))
-            (λ i p. none-in nobody i refl p)))
+            (λ x. inr (others-nobody n d (eqb-true d (everyone n) x)))
             (or-cases (quorum n s nobody (others d)) (eqb d (everyone n)) (w .1));
       }
 
@@ -108,7 +97,7 @@ module _ (n : ℕ) (s : ℕ → ℕ → Bool) where
     where
       all-left : q ≡ nobody → others q ≡ everyone n
       all-left z =
-          sub-antisym n (others q) (everyone n) (others-lt q) (everyone-lt n) (λ i p. ∖-out (everyone n) q i p .0)
+          sub-antisym n (others q) (everyone n) (others-lt n q) (everyone-lt n) (λ i p. ∖-out (everyone n) q i p .0)
           (λ i p. ∖-in (everyone n) q i p (fails (has q i) (λ x. none-in q i z x)))
 
   pub intact-is : (b v : ℕ) → b < 2 ^ n → intact n s b v ≡ true → (d : ℕ) × DSet d × Sub b d × (has d v ≡ false)
@@ -132,11 +121,11 @@ module _ (n : ℕ) (s : ℕ → ℕ → Bool) where
       -- the others of q are in d
       inside : Sub (others q) d
       inside i p =
-          ⊎-elim (λ x. x) (λ x. clash (has q i) (inq i (others-in d i (has-below n (others q) i (others-lt q) p) x)) (others-out q i p)) (either (has d i))
+          ⊎-elim (λ x. x) (λ x. clash (has q i) (inq i (others-in n d i (has-below n (others q) i (others-lt n q) p) x)) (others-out n q i p .1)) (either (has d i))
 
       joined : others q ∪ d ≡ d
       joined =
-          sub-antisym n (others q ∪ d) d (∪-lt n (others q) d (others-lt q) (ds .bound)) (ds .bound)
+          sub-antisym n (others q ∪ d) d (∪-lt n (others q) d (others-lt n q) (ds .bound)) (ds .bound)
           (λ i p. ⊎-elim (inside i) (λ x. x) (∪-cases (others q) d i p)) (λ i p. ∪-right (others q) d i p)
 
       -- what is left of such a quorum is a quorum with d counted out
@@ -161,7 +150,7 @@ module _ (n : ℕ) (s : ℕ → ℕ → Bool) where
         in-first : (q1 : ℕ) → q1 ∖ d ≡ nobody → Sub (others d) (greatest n s nobody (q ∖ q1))
         in-first q1 e =
             greatest-has n s nobody (q ∖ q1) (others d) here
-            (λ i p. ∖-in q q1 i (inq i p) (fails (has q1 i) (λ x. none-in (q1 ∖ d) i e (∖-in q1 d i x (others-out d i p)))))
+            (λ i p. ∖-in q q1 i (inq i p) (fails (has q1 i) (λ x. none-in (q1 ∖ d) i e (∖-in q1 d i x (others-out n d i p .1)))))
 
         -- and, where W2 is not empty, in W2: W2 meets what d leaves out, so it and q2 cannot both have something left
         in-second : (q1 q2 : ℕ) → Quorum n s (others q) q2 → q1 ∖ d ≡ nobody → ¬ (greatest n s nobody (q ∖ q2) ≡ nobody) → Sub (others d) (greatest n s nobody (q ∖ q2))
@@ -181,7 +170,7 @@ module _ (n : ℕ) (s : ℕ → ℕ → Bool) where
             left-some w k =
                 clash (meets (greatest n s nobody (q ∖ q2)) (others d)) (plain (greatest n s nobody (q ∖ q2)) (others d) w here)
                 (meets-not (greatest n s nobody (q ∖ q2)) (others d) (apart-none n (greatest n s nobody (q ∖ q2)) (others d) (w .below)
-                (λ i p. fails (has (others d) i) (λ x. none-in (greatest n s nobody (q ∖ q2) ∖ d) i k (∖-in (greatest n s nobody (q ∖ q2)) d i p (others-out d i x))))))
+                (λ i p. fails (has (others d) i) (λ x. none-in (greatest n s nobody (q ∖ q2) ∖ d) i k (∖-in (greatest n s nobody (q ∖ q2)) d i p (others-out n d i x .1))))))
 
       -- so it lies in the next u
       pub in-next : (x : Pair) → Sound n s (others q) x → Sub (others d) (nextU n s q x)
@@ -232,7 +221,7 @@ module _ (n : ℕ) (s : ℕ → ℕ → Bool) where
       smaller-by : (y : ℕ) → Quorum n s (others q) y → size n (greatest n s nobody (q ∖ y)) < size n q
       smaller-by y a =
           let v = a-node n s y (a .below) (a .some-node) in
-          let inq : In q (v .0) = ⊎-elim (λ k. k) (λ k. clash (has (others q) (v .0)) (others-in q (v .0) (has-below n y (v .0) (a .below) (v .1)) k) (a .apart (v .0) (v .1))) (either (has q (v .0))) in
+          let inq : In q (v .0) = ⊎-elim (λ k. k) (λ k. clash (has (others q) (v .0)) (others-in n q (v .0) (has-below n y (v .0) (a .below) (v .1)) k) (a .apart (v .0) (v .1))) (either (has q (v .0))) in
           size-lt n (greatest n s nobody (q ∖ y)) q (v .0) (greatest-lt n s nobody (q ∖ y)) hq (part y) inq
           (fails (has (greatest n s nobody (q ∖ y)) (v .0)) (λ k. clash (has y (v .0)) (v .1) (∖-out q y (v .0) (greatest-sub n s nobody (q ∖ y) (v .0) k) .1)))
 
@@ -276,14 +265,14 @@ module _ (n : ℕ) (s : ℕ → ℕ → Bool) where
           let hq = greatest-lt n s nobody u in
           let ds : dset n s (others q) ≡ true = is-dset q hq
           (⊎-elim (λ z. inr (eqb-true q 0 z)) (λ z. inl (greatest-quorum n s mono nobody u (eqb-false q 0 z))) (either (empty q))) e in
-          let around : Sub b (others q) = λ i p. others-in q i (has-below n b i hb p) (fails (has q i) (λ x. clash (has b i) p (h .well i (greatest-sub n s nobody u i x)))) in
+          let around : Sub b (others q) = λ i p. others-in n q i (has-below n b i hb p) (fails (has q i) (λ x. clash (has b i) p (h .well i (greatest-sub n s nobody u i x)))) in
           sub-antisym n q (setOf n (intact n s b)) hq (setOf-lt n (intact n s b))
           (λ i p. setOf-in n (intact n s b) i (has-below n q i hq p)
-          (is-intact b i (others q) hb (others-lt q) ds around (fails (has (others q) i) (λ x. clash (has q i) p (others-out q i x)))))
+          (is-intact b i (others q) hb (others-lt n q) ds around (fails (has (others q) i) (λ x. clash (has q i) p (others-out n q i x .1)))))
           (λ i p.
           let v = setOf-out n (intact n s b) i p in
           let w = intact-is b i hb (v .1) in
-          let inside : In (others (w .0)) i = others-in (w .0) i (v .0) (w .3) in
+          let inside : In (others (w .0)) i = others-in n (w .0) i (v .0) (w .3) in
           ⊎-elim
           (λ k. greatest-has n s nobody u (others (w .0)) k (h .all-left (w .0) (w .1) (w .2)) i inside)
           (λ k. none-in (others (w .0)) i k inside)
@@ -292,9 +281,9 @@ module _ (n : ℕ) (s : ℕ → ℕ → Bool) where
       pub start : Holds (others b)
       start =
           record {
-            bound = others-lt b;
-            well = λ i p. others-out b i p;
-            all-left = λ d ds f i p. others-in b i (has-below n (others d) i (others-lt d) p) (fails (has b i) (λ x. clash (has d i) (f i x) (others-out d i p)));
+            bound = others-lt n b;
+            well = λ i p. others-out n b i p .1;
+            all-left = λ d ds f i p. others-in n b i (has-below n (others d) i (others-lt n d) p) (fails (has b i) (λ x. clash (has d i) (f i x) (others-out n d i p .1)));
           }
 
       -- from u on, the rounds answer the intact nodes; no more visits than 2 ^ (nodes of u + 2)

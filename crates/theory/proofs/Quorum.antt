@@ -1,14 +1,15 @@
 -- What it is to be a quorum, as facts about nodes; the union of two quorums is a quorum; and a quorum is still one when further
 -- nodes are counted out, as long as something of it is left. Only that satisfaction is monotone is used.
-use mathlib.Core.Path.{_≡_, ap}
+use mathlib.Core.Path.{_≡_, refl, sym, ap, subst}
 use mathlib.Core.Bool.{Bool, true, false, not, _&&_, _||_}
 use mathlib.Core.Logic.{_⊎_, ⊎-elim}
 use Prim.Native.Nat.{ℕ, _^_, _<_}
 use borrow.Author.Tests.{eqb-false, ne-eqb}
+use lib.Pow.{pow-pos}
 use Rattle.sets.specs.Sets.{has, nobody, everyone, _∪_, _∖_, empty, within, meets, each}
 use Rattle.sets.specs.Listing.{allSets}
-use Rattle.sets.proofs.Bools.{either, clash, and-parts, and-both, not-holds, or-cases, or-left, or-right, fails}
-use Rattle.sets.proofs.Members.{In, Sub, has-everyone, has-below, ∪-left, ∪-right, ∪-cases, ∪-lt, ∖-in, ∖-out, ∖-lt, none-in, everyone-lt, within-sub, within-lt, sub-within, each-at, at-each}
+use Rattle.sets.proofs.Bools.{either, clash, and-parts, and-both, not-holds, or-cases, or-left, or-right, fails, holds}
+use Rattle.sets.proofs.Members.{In, Sub, has-everyone, has-below, ∪-left, ∪-right, ∪-cases, ∪-lt, ∖-in, ∖-out, ∖-lt, none-in, sub-antisym, everyone-lt, everyone-all, within-sub, within-lt, sub-within, each-at, at-each}
 use Rattle.sets.proofs.Lowest.{lowest-in}
 use Rattle.sets.proofs.Listing.{allSets-at, at-allSets}
 use Rattle.meanings.specs.Quorums.{ground, quorum, intersecting}
@@ -22,17 +23,43 @@ pub ∪-grows : (a b d : ℕ) → Sub a b → Sub (a ∪ d) (b ∪ d)
 ∪-grows a b d f i p = ⊎-elim (λ q. ∪-left b d i (f i q)) (λ q. ∪-right b d i q) (∪-cases a d i p)
 
 module _ (n : ℕ) where
+  -- ---- the nodes outside a set
+  abbrev pub others : ℕ → ℕ
+  others d = everyone n ∖ d
+
+  pub others-lt : (d : ℕ) → others d < 2 ^ n
+  others-lt d = ∖-lt n (everyone n) d (everyone-lt n)
+
+  pub others-in : (d i : ℕ) → i < n → has d i ≡ false → In (others d) i
+  others-in d i l p = ∖-in (everyone n) d i (has-everyone n i l) p
+
+  pub others-out : (d i : ℕ) → In (others d) i → (i < n) × (has d i ≡ false)
+  others-out d i p = let q = ∖-out (everyone n) d i p in (has-below n (everyone n) i (everyone-lt n) (q .0), q .1)
+
+  -- there are none exactly where the set is everything
+  pub others-nobody : (d : ℕ) → d ≡ everyone n → others d ≡ nobody
+  others-nobody d e =
+      sub-antisym n (others d) nobody (others-lt d) (pow-pos n)
+      (λ i p. let q = others-out d i p in clash (has d i) (subst (λ (m : ℕ). In m i) (sym e) (has-everyone n i (q .0))) (q .1))
+      (λ i p. none-in nobody i refl p)
+
+  pub nobody-others : (d : ℕ) → d < 2 ^ n → others d ≡ nobody → d ≡ everyone n
+  nobody-others d h e =
+      sub-antisym n d (everyone n) h (everyone-lt n) (everyone-all n d h)
+      (λ i p. holds (has d i) (λ x. none-in (others d) i e (∖-in (everyone n) d i p x)))
+
+  -- the ground is the nodes outside those counted out
   pub ground-lt : (d : ℕ) → ground n d < 2 ^ n
   unfolding ground
-  ground-lt d = ∖-lt n (everyone n) d (everyone-lt n)
+  ground-lt d = others-lt d
 
   pub ground-in : (d i : ℕ) → i < n → has d i ≡ false → In (ground n d) i
   unfolding ground
-  ground-in d i l p = ∖-in (everyone n) d i (has-everyone n i l) p
+  ground-in d i l p = others-in d i l p
 
   pub ground-out : (d i : ℕ) → In (ground n d) i → (i < n) × (has d i ≡ false)
   unfolding ground
-  ground-out d i p = let q = ∖-out (everyone n) d i p in (has-below n (everyone n) i (everyone-lt n) (q .0), q .1)
+  ground-out d i p = others-out d i p
 
 module _ (n : ℕ) (s : ℕ → ℕ → Bool) where
   -- u is a quorum with d counted out

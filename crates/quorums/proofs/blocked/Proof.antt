@@ -1,9 +1,9 @@
 -- A node of the set is blocked; of another node the quorum set is judged on all nodes but those of the set.
-use mathlib.Core.Path.{sym, ap, _∙_}
-use mathlib.Core.Bool.{not}
+use mathlib.Core.Path.{_≡_, sym, ap, _∙_}
+use mathlib.Core.Bool.{true, false, not}
 use Prim.Native.Nat.{ℕ}
 use native.Mathlib.Omega.{arith}
-use Rattle.sets.specs.Sets.{everyone, _∖_}
+use Rattle.sets.specs.Sets.{has, everyone, _∖_}
 use Rattle.meanings.specs.Table.{nodes, satisfied}
 use Rattle.theory.proofs.Blocks.{itself, by-others}
 use Rattle.tables.proofs.Sound.{sound-table}
@@ -40,7 +40,9 @@ returns c =
     let C = c .before in
     let s = C .before .before in
     let t = s .args .t .now in
-    sym (itself (nodes t) (satisfied t) (s .args .set) (s .args .v) (sym (C .contains .ensures) ∙ c .if1 .taken))
+    let test : C .contains .result ≡ true = c .if1 .taken in
+    let held : has (s .args .set) (s .args .v) ≡ true = sym (C .contains .ensures) ∙ test in
+    sym (itself (nodes t) (satisfied t) (s .args .set) (s .args .v) held)
 
 returns-2 : tie.Need-returns-2
 returns-2 c =
@@ -51,11 +53,13 @@ returns-2 c =
     let C = E .before in
     let s = C .before .before in
     let t = s .args .t .now in
-    ap not
-    (c .satisfied .ensures
-    ∙ ap (λ (u : ℕ). satisfied t u (s .args .v))
-    (W .without .ensures ∙ ap (λ (m : ℕ). m ∖ s .args .set) (A .all .ensures ∙ ap everyone (F .find-heads .ensures .1))))
-    ∙ sym (by-others (nodes t) (satisfied t) (s .args .set) (s .args .v) (sym (C .contains .ensures) ∙ E .if1 .left))
+    let test : C .contains .result ≡ false = E .if1 .left in
+    let held : has (s .args .set) (s .args .v) ≡ false = sym (C .contains .ensures) ∙ test in
+    let left : W .without .result ≡ A .all .result ∖ s .args .set = W .without .ensures in
+    let everybody : A .all .result ≡ everyone (nodes t) = A .all .ensures ∙ ap everyone (F .find-heads .ensures .1) in
+    let judged : c .satisfied .result ≡ satisfied t (W .without .result) (s .args .v) = c .satisfied .ensures in
+    ap not (judged ∙ ap (λ (u : ℕ). satisfied t u (s .args .v)) (left ∙ ap (λ (m : ℕ). m ∖ s .args .set) everybody))
+    ∙ sym (by-others (nodes t) (satisfied t) (s .args .set) (s .args .v) held)
 
 pub blocked-spec : {M : Type 1} → statement M
 blocked-spec =
