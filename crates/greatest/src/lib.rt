@@ -48,16 +48,12 @@ fn touched(plan: &[u64], v: u64) -> u64
     plan[3 * v as usize + 2]
 }
 
-// Whether `with` satisfies node v, and so each node alike. Where its members are enough, no call is made.
+// Whether `with` satisfies node v, and so each node alike.
 fn meets(t: &[u64], plan: &[u64], with: u64, v: u64) -> bool
     requires { ⌜ (Planned (now t) (now plan)) × (v < nodes (now t)) ⌝ }
     ensures { λ o. ⌜ ((i : ℕ) → has (likeAt (now (plan .entry)) v) i ≡ true → satisfied (now (t .entry)) with i ≡ o) ⌝ }
 {
-    let r = head(plan, v);
-    if satisfaction::enough(t, with, r) {
-        return true;
-    }
-    satisfaction::satisfies(t, with, r, 3)
+    satisfaction::satisfies(t, with, head(plan, v))
 }
 
 // The greatest quorum within u with d counted out, where it has all of `must`; otherwise nobody.

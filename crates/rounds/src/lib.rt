@@ -13,12 +13,12 @@ pub struct Left {
     pub rounds: u64,
 }
 
-// Whether `with` satisfies the quorum set of node v, whose inner sets go three levels down at the most.
+// Whether `with` satisfies the quorum set of node v.
 pub fn satisfied(t: &[u64], heads: &[u64], with: u64, v: u64) -> bool
     requires { ⌜ Headed (now t) (now heads) × (v < nodesOf (now t)) ⌝ }
     ensures { λ o. ⌜ o ≡ satisfiedIs (now (t .entry)) with v ⌝ }
 {
-    satisfaction::satisfies(t, with, heads[v as usize] as usize, 3)
+    satisfaction::satisfies(t, with, heads[v as usize] as usize)
 }
 
 // The greatest quorum within u with d counted out, and its rounds. A round that is not the last drops a node, so the rounds end.

@@ -1,35 +1,59 @@
-// Judging a quorum set (SPECIFICATION 3): does a set of nodes satisfy it? An inner set is judged the same way, down to the last level. The
-// records of the table are sound.
+// Judging a quorum set (SPECIFICATION 3): does a set of nodes satisfy it? One walk over its records, first to last, with a counter a level:
+// what the sets that it stands in still want. The records of the table are sound.
 ghost use mathlib.Core.Path.{_≡_};
-ghost use Prim.Native.Nat.{_-_, _<_, _≤_, _^_};
 ghost use mathlib.Core.Bool.{false};
+ghost use Prim.Native.Nat.{ℕ, suc, _+_, _-_, _<_};
 ghost use lib.Dec.{leb};
-ghost use Rattle.sets.specs.Sets.{size, _∩_};
-ghost use Rattle.meanings.specs.Table.{records, members as membersOf, threshold as thresholdOf, satisfies as satisfiesAt};
+ghost use Rattle.sets.specs.Sets.{size};
+ghost use Rattle.meanings.specs.Table.{records, level as levelOf};
 ghost use Rattle.meanings.specs.Faults.{check, sound};
-ghost use Rattle.tables.specs.Run.{innerRun};
-ghost use Rattle.satisfaction.specs.Flat.{Flat};
+ghost use Rattle.tables.specs.Run.{bump};
+ghost use Rattle.satisfaction.specs.Judged.{holds, lack, still};
+ghost use Rattle.satisfaction.specs.Wanted.{owed, comes, Gets, left};
 
-// How many members of record r are in u.
-fn met(t: &[u64], u: u64, r: usize) -> u64
-    requires { ⌜ (check (now t) ≡ sound) × (r < records (now t)) ⌝ }
-    ensures { λ o. ⌜ (o ≡ size 64 (membersOf (now (t .entry)) r ∩ u)) × (o ≤ 64) ⌝ }
-{
-    sets::count(tables::members(t, r) & u)
+// How many inner sets are still wanted: by the set that is judged, by the last one below it, and by the last one below that. A set that
+// wants none is satisfied and has been counted.
+struct Wanted {
+    outer: u64,
+    inner: u64,
+    inmost: u64,
 }
 
-// Whether the members of record r in u are enough, without its inner sets.
-pub fn enough(t: &[u64], u: u64, r: usize) -> bool
-    requires { ⌜ (check (now t) ≡ sound) × (r < records (now t)) ⌝ }
-    ensures { λ o. ⌜ o ≡ leb (thresholdOf (now (t .entry)) r) (size 64 (membersOf (now (t .entry)) r ∩ u)) ⌝ }
+// How many nodes m has too few to have k. One and two are told without counting.
+fn short_of(m: u64, k: u64) -> u64
+    ensures { λ o. ⌜ o ≡ k - size 64 m ⌝ }
 {
-    tables::threshold(t, r) <= met(t, u, r)
+    if m == 0 {
+        return k;
+    }
+    if k <= 1 {
+        return 0;
+    }
+    if k == 2 {
+        if m & (m - 1) == 0 {
+            return 1;
+        }
+        return 0;
+    }
+    let have = sets::count(m);
+    if k <= have {
+        return 0;
+    }
+    k - have
+}
+
+// What the members of record r in u leave to its inner sets.
+fn lacking(t: &[u64], u: u64, r: usize) -> u64
+    requires { ⌜ r < records (now t) ⌝ }
+    ensures { λ o. ⌜ o ≡ lack (now (t .entry)) u r ⌝ }
+{
+    short_of(tables::members(t, r) & u, tables::threshold(t, r))
 }
 
 // Whether record r has inner sets: without them none is ever counted.
 fn deeper(t: &[u64], r: usize) -> bool
     requires { ⌜ (check (now t) ≡ sound) × (r < records (now t)) ⌝ }
-    ensures { λ o. ⌜ (o ≡ false → Flat (now (t .entry)) r) ⌝ }
+    ensures { λ o. ⌜ ((u : ℕ) → o ≡ false → still (now (t .entry)) u (levelOf (now (t .entry)) r) (r + 1) ≡ 0) ⌝ }
 {
     if r + 1 == t.len() / 2 {
         return false;
@@ -37,44 +61,117 @@ fn deeper(t: &[u64], r: usize) -> bool
     tables::level(t, r) < tables::level(t, r + 1)
 }
 
-// Whether u satisfies at least `wanted` of the inner sets of a set at level `above`, from record `from` on.
-fn inner_enough(t: &[u64], u: u64, from: usize, above: u64, left: usize, wanted: u64) -> bool
-    requires { ⌜ (check (now t) ≡ sound) × (from ≤ records (now t)) × (above < 2 ^ 56) × (0 < wanted) ⌝ }
-    ensures { λ o. ⌜ o ≡ leb wanted (innerRun (λ j. satisfiesAt left (now (t .entry)) u j) (now (t .entry)) above (records (now (t .entry)) - from) from) ⌝ }
+// The counters, one a level.
+fn wants(outer: u64, inner: u64, inmost: u64) -> Wanted
+    ensures { λ o. ⌜ (o .outer ≡ outer) × (o .inner ≡ inner) × (o .inmost ≡ inmost) ⌝ }
 {
-    let mut have = 0u64;
-    let mut j = from;
+    Wanted {
+        outer,
+        inner,
+        inmost,
+    }
+}
+
+// The last set below the one that is judged gets one more of those it wants. Where that is the last of them it is satisfied, and counts.
+fn gain(outer: u64, inner: u64) -> Wanted
+    requires { ⌜ (0 < outer) × (0 < inner) ⌝ }
+    ensures { λ o. ⌜ Gets o (λ n3 n2 n1. leb outer (owed inner (suc n2) + n1)) ⌝ }
+{
+    if inner == 1 {
+        return wants(outer - 1, 0, 0);
+    }
+    wants(outer, inner - 1, 0)
+}
+
+// A set right below the one that is judged, whose members leave so many wanting.
+fn enter(w: Wanted, short: u64) -> Wanted
+    requires { ⌜ 0 < w .outer ⌝ }
+    ensures { λ o. ⌜ Gets o (λ n3 n2 n1. leb (w .outer) (bump (leb short n2) n1)) ⌝ }
+{
+    if short == 0 {
+        return wants(w.outer - 1, 0, 0);
+    }
+    wants(w.outer, short, 0)
+}
+
+// A set one level further down, below one that still wants some.
+fn enter_inner(w: Wanted, short: u64) -> Wanted
+    requires { ⌜ (0 < w .outer) × (0 < w .inner) ⌝ }
+    ensures { λ o. ⌜ Gets o (λ n3 n2 n1. leb (w .outer) (owed (w .inner) (bump (leb short n3) n2) + n1)) ⌝ }
+{
+    if short == 0 {
+        return gain(w.outer, w.inner);
+    }
+    wants(w.outer, w.inner, short)
+}
+
+// A satisfied set at the last level, below one that still wants some.
+fn gain_inmost(w: Wanted) -> Wanted
+    requires { ⌜ (0 < w .outer) × (0 < w .inner) × (0 < w .inmost) ⌝ }
+    ensures { λ o. ⌜ Gets o (λ n3 n2 n1. comes (w .outer) (w .inner) (w .inmost) (suc n3) n2 n1) ⌝ }
+{
+    if w.inmost == 1 {
+        return gain(w.outer, w.inner);
+    }
+    wants(w.outer, w.inner, w.inmost - 1)
+}
+
+// Record j, below a set at level `above`, is judged for what it gives to those that want it. Below a satisfied set nothing counts.
+fn after(t: &[u64], u: u64, above: u64, j: usize, w: Wanted) -> Wanted
+    requires { ⌜ (check (now t) ≡ sound) × (j < records (now t)) × (above < levelOf (now t) j) × (0 < w .outer) ⌝ }
+    ensures { λ o. ⌜ left (now (t .entry)) u above (j + 1) o ≡ left (now (t .entry)) u above j w ⌝ }
+{
+    let depth = tables::level(t, j) - above;
+    if depth == 1 {
+        return enter(w, lacking(t, u, j));
+    }
+    if w.inner == 0 {
+        return w;
+    }
+    if depth == 2 {
+        return enter_inner(w, lacking(t, u, j));
+    }
+    if w.inmost == 0 {
+        return w;
+    }
+    if lacking(t, u, j) != 0 {
+        return w;
+    }
+    gain_inmost(w)
+}
+
+// Whether u satisfies as many inner sets of record r as are wanted: the records after it, up to the first at its level or above.
+fn inner_enough(t: &[u64], u: u64, r: usize, wanted: u64) -> bool
+    requires { ⌜ (check (now t) ≡ sound) × (r < records (now t)) × (0 < wanted) ⌝ }
+    ensures { λ o. ⌜ o ≡ leb wanted (still (now (t .entry)) u (levelOf (now (t .entry)) r) (r + 1)) ⌝ }
+{
+    let above = tables::level(t, r);
+    let mut w = wants(wanted, 0, 0);
+    let mut j = r + 1;
     while j < t.len() / 2 {
-        let here = tables::level(t, j);
-        if here <= above {
+        if tables::level(t, j) <= above {
             return false;
         }
-        if here == above + 1 {
-            let good = enough(t, u, j) || (deeper(t, j) && satisfies(t, u, j, left));
-            if good {
-                have += 1;
-                if have == wanted {
-                    return true;
-                }
-            }
+        w = after(t, u, above, j, w);
+        if w.outer == 0 {
+            return true;
         }
         j += 1;
     }
     false
 }
 
-// Whether u satisfies record r, with `left` levels below it.
-pub fn satisfies(t: &[u64], u: u64, r: usize, left: usize) -> bool
+// Whether u satisfies the quorum set of record r.
+pub fn satisfies(t: &[u64], u: u64, r: usize) -> bool
     requires { ⌜ (check (now t) ≡ sound) × (r < records (now t)) ⌝ }
-    ensures { λ o. ⌜ o ≡ satisfiesAt left (now (t .entry)) u r ⌝ }
+    ensures { λ o. ⌜ o ≡ holds (now (t .entry)) u r ⌝ }
 {
-    let need = tables::threshold(t, r);
-    let have = met(t, u, r);
-    if need <= have {
+    let wanted = lacking(t, u, r);
+    if wanted == 0 {
         return true;
     }
-    if left == 0 {
+    if !deeper(t, r) {
         return false;
     }
-    inner_enough(t, u, r + 1, tables::level(t, r), left - 1, need - have)
+    inner_enough(t, u, r, wanted)
 }

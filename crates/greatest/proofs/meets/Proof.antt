@@ -4,7 +4,6 @@ use mathlib.Core.Bool.{true}
 use Prim.Native.Nat.{ℕ, _<_}
 use Rattle.sets.specs.Sets.{has}
 use Rattle.meanings.specs.Table.{records, satisfies, satisfied}
-use Rattle.satisfaction.proofs.Laws.{judged-enough}
 use Rattle.plans.specs.Plans.{likeAt}
 use Rattle.greatest.proofs.Laws.{in-plan}
 use Rattle.greatest.proofs.meets.Statement.{statement}
@@ -28,21 +27,11 @@ alike c i p =
     let s = c .before .before .before in
     s .pre .0 .all-nodes .judged (s .args .v) i (s .args .with) (s .pre .1) p ∙ ap (satisfies 3 (s .args .t .now) (s .args .with)) (sym (c .head .ensures))
 
-enough-requires : tie.Need-enough-requires
-enough-requires c κs = (c .before .before .before .pre .0 .checked, head-in c)
+satisfies-requires : tie.Need-satisfies-requires
+satisfies-requires c κs = (c .before .before .before .pre .0 .checked, head-in c)
 
 returns : tie.Need-returns
-returns c =
-    let E = c .before in
-    let H = E .before in
-    let s = H .before .before .before in
-    λ i p. alike H i p ∙ judged-enough 3 (s .args .t .now) (s .args .with) (H .head .result) (s .pre .0 .checked) (head-in H) (sym (E .enough .ensures) ∙ c .if1 .taken)
-
-satisfies-requires : tie.Need-satisfies-requires
-satisfies-requires c κs = let H = c .before .before in (H .before .before .before .pre .0 .checked, head-in H)
-
-returns-2 : tie.Need-returns-2
-returns-2 c = λ i p. alike (c .before .before .before) i p ∙ sym (c .satisfies .ensures)
+returns c = λ i p. alike (c .before) i p ∙ sym (c .satisfies .ensures)
 
 pub meets-spec : {M : Type 1} → statement M
-meets-spec = tie.close (tie.spec head-requires enough-requires returns satisfies-requires returns-2)
+meets-spec = tie.close (tie.spec head-requires satisfies-requires returns)

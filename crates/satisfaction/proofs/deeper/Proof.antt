@@ -5,6 +5,7 @@ use borrow.Author.Tests.{ltb-false}
 use Rattle.meanings.specs.Table.{records, level}
 use Rattle.tables.proofs.Runs.{from-end, from-stop}
 use Rattle.tables.proofs.Sound.{record-in, sound-table}
+use Rattle.satisfaction.specs.Judged.{holds}
 use Rattle.satisfaction.proofs.deeper.Statement.{statement}
 use Rattle.satisfaction.proofs.deeper.Tie as tie
 
@@ -18,7 +19,7 @@ returns : tie.Need-returns
 unfolding records
 returns c =
     let s = c .before .before in
-    λ e f. from-end f (s .args .t .now) (level (s .args .t .now) (s .args .r)) (s .args .r + 1) (omega (arith, c .if1 .taken))
+    λ u e. from-end (holds (s .args .t .now) u) (s .args .t .now) (level (s .args .t .now) (s .args .r)) (s .args .r + 1) (omega (arith, c .if1 .taken))
 
 level-requires : tie.Need-level-requires
 level-requires c κs = let s = c .before .before in record-in (s .args .t .now) (s .args .r) (s .pre .1)
@@ -39,11 +40,11 @@ returns-2 : tie.Need-returns-2
 returns-2 c =
     let L = c .before in
     let s = L .before .before .before in
-    λ e f.
+    λ u e.
     let l : c .level2 .result ≤ L .level .result = ltb-false (L .level .result) (c .level2 .result) e in
     let a = L .level .ensures .0 in
     let b = c .level2 .ensures .0 in
-    from-stop f (s .args .t .now) (level (s .args .t .now) (s .args .r)) (s .args .r + 1) (omega arith)
+    from-stop (holds (s .args .t .now) u) (s .args .t .now) (level (s .args .t .now) (s .args .r)) (s .args .r + 1) (omega arith)
 
 pub deeper-spec : {M : Type 1} → statement M
 deeper-spec = tie.close (tie.spec add-if1 returns level-requires add-level level-requires-2 returns-2)
