@@ -15,13 +15,13 @@ use Rattle.sets.proofs.Bools.{either, clash, fails}
 use Rattle.sets.proofs.Members.{In, Sub, has-nobody, has-below, ∪-left, ∪-right, ∪-cases, ∩-in, ∩-out, ∩-lt, ∖-in, ∖-out, ∖-lt, none-in, only-out, sub-antisym, sub-within, within-sub, within-lt, at-each, each-at}
 use Rattle.sets.proofs.Size.{size-lt, size-le}
 use Rattle.sets.proofs.Lowest.{lowest-in}
-use Rattle.meanings.specs.Table.{nodes, satisfied}
+use Rattle.meanings.specs.Table.{records, nodes, satisfies, satisfied}
 use Rattle.meanings.specs.Quorums.{greatest}
 use Rattle.theory.proofs.Quorum.{Monotone, ∪-grows}
 use Rattle.theory.proofs.Greatest.{greatest-lt, greatest-from, greatest-sub, greatest-has, greatest-grows, greatest-unique}
 use Rattle.tables.proofs.Sound.{sound-table}
 use Rattle.satisfaction.proofs.Monotone.{satisfied-monotone}
-use Rattle.plans.specs.Plans.{Planned, likeAt, touchedAt}
+use Rattle.plans.specs.Plans.{Planned, headAt, likeAt, touchedAt}
 use Rattle.greatest.specs.Greatest.{whereTrue, holding, Waiting, Due, Striking}
 
 -- ---- striking, for any monotone satisfaction
@@ -122,6 +122,13 @@ module _ (t plan : List ℕ) (P : Planned t plan) (d u must : ℕ) where
   -- a word of a plan's node
   pub in-plan : (v : ℕ) → v < n → (v < 64) × (3 * v + 2 < length plan)
   in-plan v l = let m = few in let f = P .fits in (omega arith, omega arith)
+
+  -- the record that is judged for a node is one of the table, and what is found for it is found for each node alike
+  pub head-in : (v h : ℕ) → v < n → h ≡ headAt plan v → h < records t
+  head-in v h l e = subst (λ (r : ℕ). r < records t) (sym e) (P .all-nodes .inside v l)
+
+  pub head-judged : (v h x : ℕ) → v < n → h ≡ headAt plan v → (i : ℕ) → In (likeAt plan v) i → satisfied t x i ≡ satisfies 3 t x h
+  head-judged v h x l e i p = P .all-nodes .judged v i x l p ∙ ap (satisfies 3 t x) (sym e)
 
   module _ (present left : ℕ) (w : Lasts t d u must present left) where
     below64 : (x : ℕ) → x < 2 ^ n → x < 2 ^ 64

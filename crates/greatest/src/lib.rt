@@ -48,6 +48,14 @@ fn touched(plan: &[u64], v: u64) -> u64
     plan[3 * v as usize + 2]
 }
 
+// Whether `with` satisfies node v, and so each node alike, as far as a glance at its members tells.
+fn surely(t: &[u64], plan: &[u64], with: u64, v: u64) -> bool
+    requires { ⌜ (Planned (now t) (now plan)) × (v < nodes (now t)) ⌝ }
+    ensures { λ o. ⌜ (o ≡ true → (i : ℕ) → has (likeAt (now (plan .entry)) v) i ≡ true → satisfied (now (t .entry)) with i ≡ true) ⌝ }
+{
+    satisfaction::enough(t, with, head(plan, v))
+}
+
 // Whether `with` satisfies node v, and so each node alike.
 fn meets(t: &[u64], plan: &[u64], with: u64, v: u64) -> bool
     requires { ⌜ (Planned (now t) (now plan)) × (v < nodes (now t)) ⌝ }
@@ -66,7 +74,9 @@ pub fn greatest_within(t: &[u64], plan: &[u64], d: u64, u: u64, due: u64, must: 
     while left != 0 {
         let v = next(left, must);
         let alike = like(plan, v);
-        if meets(t, plan, present | d, v) {
+        let with = present | d;
+        let good = surely(t, plan, with, v) || meets(t, plan, with, v);
+        if good {
             left = sets::without(left, alike);
         } else {
             present = sets::without(present, alike);
@@ -104,7 +114,9 @@ pub fn unmet(t: &[u64], plan: &[u64], d: u64, c: u64, due: u64) -> u64
     let mut left = due;
     while left != 0 {
         let v = sets::first(left);
-        if !meets(t, plan, c | d, v) {
+        let with = c | d;
+        let good = surely(t, plan, with, v) || meets(t, plan, with, v);
+        if !good {
             return left;
         }
         left = sets::without(left, like(plan, v));

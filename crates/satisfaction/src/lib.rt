@@ -1,7 +1,7 @@
 // Judging a quorum set (SPECIFICATION 3): does a set of nodes satisfy it? One walk over its records, first to last, with a counter a level:
 // what the sets that it stands in still want. The records of the table are sound.
 ghost use mathlib.Core.Path.{_≡_};
-ghost use mathlib.Core.Bool.{false};
+ghost use mathlib.Core.Bool.{true, false};
 ghost use Prim.Native.Nat.{ℕ, suc, _+_, _-_, _<_};
 ghost use lib.Dec.{leb};
 ghost use Rattle.sets.specs.Sets.{size};
@@ -19,27 +19,34 @@ struct Wanted {
     inmost: u64,
 }
 
-// How many nodes m has too few to have k. One and two are told without counting.
+// How many nodes m has too few to have k. Up to three are told without counting.
 fn short_of(m: u64, k: u64) -> u64
     ensures { λ o. ⌜ o ≡ k - size 64 m ⌝ }
 {
     if m == 0 {
         return k;
     }
+    if 3 < k {
+        let have = sets::count(m);
+        if k <= have {
+            return 0;
+        }
+        return k - have;
+    }
     if k <= 1 {
         return 0;
     }
+    let others = m & (m - 1);
+    if others == 0 {
+        return k - 1;
+    }
     if k == 2 {
-        if m & (m - 1) == 0 {
-            return 1;
-        }
         return 0;
     }
-    let have = sets::count(m);
-    if k <= have {
-        return 0;
+    if others & (others - 1) == 0 {
+        return 1;
     }
-    k - have
+    0
 }
 
 // What the members of record r in u leave to its inner sets.
@@ -174,4 +181,14 @@ pub fn satisfies(t: &[u64], u: u64, r: usize) -> bool
         return false;
     }
     inner_enough(t, u, r, wanted)
+}
+
+// Whether the members of record r in u are enough at a glance, where more than three are asked for. It tells no more: a search that meets
+// such sets need not call `satisfies` for them.
+pub fn enough(t: &[u64], u: u64, r: usize) -> bool
+    requires { ⌜ (check (now t) ≡ sound) × (r < records (now t)) ⌝ }
+    ensures { λ o. ⌜ (o ≡ true → holds (now (t .entry)) u r ≡ true) ⌝ }
+{
+    let need = tables::threshold(t, r);
+    3 < need && need <= sets::count(tables::members(t, r) & u)
 }
