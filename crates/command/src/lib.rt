@@ -1,25 +1,23 @@
 // What the report program does (SPECIFICATION 9). It is a library function, so that programs with other stored runs are the same program: a
 // program has one run in the gate.
-use input::Got;
+use intake::Taken;
 use libc::STDERR_FILENO;
-use libc::STDIN_FILENO;
 use printing::Shown;
 
-// The report on the sheet that standard input holds: its first 65,536 bytes, which give the same report as all. Of half a sheet nothing
-// may be answered, so where a read fails there is a line on standard error and no report; a write that fails ends the report, and is told there
-// too. An argument is not a sheet.
+// The report on the sheet that standard input holds. Of half a sheet nothing may be answered, so where a read fails there is a line on
+// standard error and no report; a write that fails ends the report, and is told there too. An argument is not a sheet.
 pub fn run() {
     if os::arg_count() > 1 {
         io::write_all(STDERR_FILENO, b"usage: breezedrum < SHEET\n");
         return;
     }
-    let mut sheet = io::large_buffer();
-    let got = input::read_all(STDIN_FILENO, &mut sheet);
-    let Got::Bytes { count } = got else {
+    let mut words = [0u64; 512];
+    let taken = intake::take(&mut words);
+    let Taken::Sheet(read) = taken else {
         os::fail(b"breezedrum: standard input");
         return;
     };
-    let shown = printing::show_report(&sheet[..count]);
+    let shown = printing::show_read(read, &words);
     let Shown::Up { to: _ } = shown else {
         os::fail(b"breezedrum: standard output");
         return;

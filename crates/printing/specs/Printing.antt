@@ -3,7 +3,12 @@
 use Prim.Native.Nat.{ℕ, _+_, _≤_}
 use mathlib.Core.Path.{_≡_}
 use mathlib.Core.List.{List, _++_}
-use lib.ListN.{length}
+use lib.ListN.{length, take}
+use Rattle.answers.specs.Said.{readSays}
+use Rattle.answers.specs.declared.Read.{Read}
+use Rattle.answers.specs.declared.Read.the-variants as Rx
+use Rattle.report_lines.specs.Lines.{refusedLine}
+use Rattle.report.specs.Report.{reportOn}
 use Rattle.printing.specs.declared.Shown.{Shown}
 use Rattle.printing.specs.declared.Shown.the-variants.{Up, Failed}
 
@@ -24,3 +29,10 @@ Handed part at most Failed = Unit {0}
 unfoldable pub All : (text : List ℕ) → Shown → Type 0
 All text (Up to) = to ≡ length text
 All text Failed = Unit {0}
+
+-- The report on what a sheet was read to: the words of a good one at the front of a list, or the answer that refuses it.
+unfoldable pub reportFrom : Read → (words : List ℕ) → List ℕ
+reportFrom (Rx.Words count) words = reportOn (take count words)
+reportFrom (Rx.Short count) words = refusedLine (readSays (Rx.Short count))
+reportFrom (Rx.Malformed line) words = refusedLine (readSays (Rx.Malformed line))
+reportFrom (Rx.Bad fault) words = refusedLine (readSays (Rx.Bad fault))

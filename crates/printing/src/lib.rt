@@ -12,7 +12,8 @@ ghost use Rattle.report_lines.specs.Lines.{refusedLine, setLines};
 ghost use Rattle.report_parts.specs.Parts.{listText};
 ghost use Rattle.report.specs.Report.{headPart, minimalPart, blockingPart, reportOn, reportOf};
 ghost use Rattle.printing.specs.declared.Shown.the-variants.{Up, Failed};
-ghost use Rattle.printing.specs.Printing.{Stands, Handed, All};
+ghost use Rattle.intake.specs.Intake.{WasRead};
+ghost use Rattle.printing.specs.Printing.{Stands, Handed, All, reportFrom};
 use answers::Read;
 use libc::STDOUT_FILENO;
 use replies::Reply;
@@ -136,10 +137,10 @@ fn show_blocking(table: &[u64], at: usize) -> Shown
     show_list(table, at, BLOCKING, B, listed, &sets[..k])
 }
 
-// The report on a table that was read from the sheet.
-fn show_table(sheet: &[u8], table: &[u64]) -> Shown
-    requires { ⌜ reportOn (now table) ≡ reportOf (now sheet) ⌝ }
-    ensures { λ o. ⌜ All (reportOf (now (sheet .entry))) o ⌝ }
+// The report on a table, which is that on what was read.
+fn show_table(read: Read, words: &[u64], table: &[u64]) -> Shown
+    requires { ⌜ reportOn (now table) ≡ reportFrom read (now words) ⌝ }
+    ensures { λ o. ⌜ All (reportFrom read (now (words .entry))) o ⌝ }
 {
     let head = show_head(table);
     let Shown::Up { to } = head else {
@@ -153,23 +154,31 @@ fn show_table(sheet: &[u8], table: &[u64]) -> Shown
 }
 
 // A bad sheet: one line.
-fn show_refused(sheet: &[u8], r: Reply) -> Shown
-    requires { ⌜ refusedLine (told r) ≡ reportOf (now sheet) ⌝ }
-    ensures { λ o. ⌜ All (reportOf (now (sheet .entry))) o ⌝ }
+fn show_refused(read: Read, words: &[u64], r: Reply) -> Shown
+    requires { ⌜ refusedLine (told r) ≡ reportFrom read (now words) ⌝ }
+    ensures { λ o. ⌜ All (reportFrom read (now (words .entry))) o ⌝ }
 {
     let line = report_lines::refused(r);
     print(0, &line)
 }
 
-// The report on a sheet: one line for a bad one, otherwise that on the table whose words were read.
+// The report on a sheet, from what it was read to: one line for a bad one, otherwise that on the table of its words.
+pub fn show_read(read: Read, words: &[u64]) -> Shown
+    requires { ⌜ WasRead read (now words) ⌝ }
+    ensures { λ o. ⌜ ((w : WasRead read (now (words .entry))) → All (reportOf (w .sheet)) o) ⌝ }
+{
+    let Read::Words { count } = read else {
+        return show_refused(read, words, replies::of_read(read));
+    };
+    let k = count as usize;
+    show_table(read, words, &words[..k])
+}
+
+// The report on a sheet.
 pub fn show_report(sheet: &[u8]) -> Shown
     ensures { λ o. ⌜ All (reportOf (now (sheet .entry))) o ⌝ }
 {
-    let mut table = [0u64; 512];
-    let read = sheets::read_sheet(sheet, &mut table);
-    let Read::Words { count } = read else {
-        return show_refused(sheet, replies::of_read(read));
-    };
-    let k = count as usize;
-    show_table(sheet, &table[..k])
+    let mut words = [0u64; 512];
+    let read = sheets::read_sheet(sheet, &mut words);
+    show_read(read, &words)
 }

@@ -25,7 +25,7 @@ use Rattle.report.proofs.Parts.{fault-some}
 
 -- ---- a sheet that is read: the table is its words, which have room there
 module _ (s before after : List ℕ) (r : Read) (p : ReadPromise s before after r) (room : length before ≡ mostWords) where
-  reads : readSays r ≡ readReply s mostWords
+  pub reads : readSays r ≡ readReply s mostWords
   reads = rw room at (p .answers)
 
   module _ (count : ℕ) (e : r ≡ Rx.Words count) where
@@ -45,7 +45,7 @@ module _ (s before after : List ℕ) (r : Read) (p : ReadPromise s before after 
     pub words-within : count ≤ mostWords
     words-within = subst (λ (x : ℕ). x ≤ mostWords) counted (answered s mostWords number .room-enough)
 
-    table-read : take count after ≡ readPuts s
+    pub table-read : take count after ≡ readPuts s
     table-read = rw (rw room at (p .holds), number) (take-at (readPuts s) (drop (length (readPuts s)) before) count counted)
 
     pub good-sheet : reportOn (take count after) ≡ reportOf s

@@ -56,7 +56,7 @@ module _ (s : List ℕ) (n k : ℕ) (h : k ≤ n) where
   cut-split : take n s ≡ take k s ++ take (n - k) (drop k s)
   cut-split = let e : n ≡ k + (n - k) = omega arith in ap (λ (i : ℕ). take i s) e ∙ take-add k (n - k) s
 
-  cut-rest : k ≤ length s → drop k (take n s) ≡ take (n - k) (drop k s)
+  pub cut-rest : k ≤ length s → drop k (take n s) ≡ take (n - k) (drop k s)
   cut-rest f = ap (drop k) cut-split ∙ drop-at (take k s) (take (n - k) (drop k s)) k (length-take-le k s f)
 
   pub line-cut : (l t m : ℕ) → readLine s ≡ Good l t m k → readLine (take n s) ≡ Good l t m k

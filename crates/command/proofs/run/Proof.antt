@@ -1,7 +1,6 @@
--- What was read is counted within the buffer that is lent.
+-- What is reported on is what was taken in.
+use Rattle.intake.proofs.Laws.{taken-in}
 use borrow.Author.Needs.{needs}
-use Rattle.io.specs.Counts.{Counts}
-use Rattle.input.proofs.Answers.{bytes-counted}
 use Rattle.command.proofs.run.Statement.{statement}
 use Rattle.command.proofs.run.Tie as tie
 
@@ -17,17 +16,14 @@ write-all-requires c κs = search needs
 returns : tie.Need-returns
 returns c = search needs
 
-large-buffer-requires : tie.Need-large-buffer-requires
-large-buffer-requires c κs = search needs
+slice-aggregate-take : tie.Need-slice-aggregate-take
+slice-aggregate-take c = search needs
 
-slice-aggregate-read-all : tie.Need-slice-aggregate-read-all
-slice-aggregate-read-all c = search needs
+take-requires : tie.Need-take-requires
+take-requires c κs = search needs
 
-read-all-requires : tie.Need-read-all-requires
-read-all-requires c κs = search needs
-
-enum-known-got : tie.Need-enum-known-got
-enum-known-got c = search needs
+enum-known-taken : tie.Need-enum-known-taken
+enum-known-taken c = search needs
 
 enum-told : tie.Need-enum-told
 enum-told c = search needs
@@ -41,18 +37,14 @@ fail-requires c κs = search needs
 returns-2 : tie.Need-returns-2
 returns-2 c = search needs
 
--- the bytes that are lent lie within the buffer
-counted : (c : tie.After-known-told) → Counts (c .before .got .given .0 .0) (c .before .before .before .before .read-all .last .1 .0)
-counted c = bytes-counted _ _ _ (c .before .before .before .before .read-all .ensures) (c .before .got .given .1)
+slice-aggregate-show-read : tie.Need-slice-aggregate-show-read
+slice-aggregate-show-read c = search needs
 
-array-share-prefix-sheet : tie.Need-array-share-prefix-sheet
-array-share-prefix-sheet c = counted c .0
-
-slice-aggregate-show-report : tie.Need-slice-aggregate-show-report
-slice-aggregate-show-report c = counted (c .before) .1
-
-show-report-requires : tie.Need-show-report-requires
-show-report-requires c κs = search needs
+show-read-requires : tie.Need-show-read-requires
+show-read-requires c κs =
+    let t = c .before .before in
+    let k = t .before .before .before in
+    taken-in (k .take .last .0) (k .take .result) (t .taken .given .0 .0) (k .take .ensures) (t .taken .given .1)
 
 enum-told-2 : tie.Need-enum-told-2
 enum-told-2 c = search needs
@@ -80,17 +72,15 @@ run-spec =
     slice-aggregate-write-all
     write-all-requires
     returns
-    large-buffer-requires
-    slice-aggregate-read-all
-    read-all-requires
-    enum-known-got
+    slice-aggregate-take
+    take-requires
+    enum-known-taken
     enum-told
     slice-aggregate-fail
     fail-requires
     returns-2
-    array-share-prefix-sheet
-    slice-aggregate-show-report
-    show-report-requires
+    slice-aggregate-show-read
+    show-read-requires
     enum-told-2
     enum-told-3
     slice-aggregate-fail-2

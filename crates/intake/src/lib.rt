@@ -1,0 +1,151 @@
+// Reading a sheet from standard input as it comes in. Only a window of it is held, so that little stack is taken: a line has at most 188 bytes,
+// and its record is two words.
+ghost use mathlib.Core.Path.{_≡_};
+ghost use Prim.Native.Nat.{_-_, _≤_};
+ghost use lib.ListN.{length, take, drop};
+ghost use Rattle.intake.specs.Intake.{Widens, Hears, TakesIn};
+use answers::Checked;
+use answers::Fault;
+use answers::Read;
+use input::Got;
+use libc::STDIN_FILENO;
+use lines::Line;
+
+// How many bytes of the window there are, and whether the input has ended behind them; or that a read failed.
+enum Window {
+    Bytes { count: usize, ended: bool },
+    Failed,
+}
+
+// What the lines came to, and whether the input had ended by then; or that a read failed.
+enum Heard {
+    Told { read: Read, ended: bool },
+    Failed,
+}
+
+// The answer to reading the sheet, or that a read failed.
+pub enum Taken {
+    Sheet(Read),
+    Failed,
+}
+
+// Reads on where the bytes at hand may be less than a line. Less than a full window is read only at the end.
+fn widen(buf: &mut [u8], len: usize, ended: bool) -> Window
+    requires { ⌜ (length (now buf) ≡ 512) × (len ≤ 512) ⌝ }
+    ensures { λ o. ⌜ Widens len (now (buf .entry)) (now (buf .exit)) o ⌝ }
+{
+    if ended || 188 <= len {
+        return Window::Bytes { count: len, ended };
+    }
+    let got = input::read_all(STDIN_FILENO, &mut buf[len..]);
+    let Got::Bytes { count } = got else {
+        return Window::Failed;
+    };
+    let all = len + count;
+    Window::Bytes {
+        count: all,
+        ended: all < 512,
+    }
+}
+
+// Drops the first bytes of the window: the others move to the front.
+fn shift(buf: &mut [u8], used: usize, len: usize)
+    requires { ⌜ (used ≤ len) × (len ≤ length (now buf)) ⌝ }
+    ensures { λ o. ⌜ (take (len - used) (now (buf .exit)) ≡ take (len - used) (drop used (now (buf .entry)))) × (length (now (buf .exit)) ≡ length (now (buf .entry))) ⌝ }
+{
+    let mut i = 0;
+    while i < len - used {
+        buf[i] = buf[used + i];
+        i += 1;
+    }
+}
+
+// The lines in turn, each judged when it is there as a whole.
+fn hear(words: &mut [u64]) -> Heard
+    requires { ⌜ length (now words) ≡ 512 ⌝ }
+    ensures { λ o. ⌜ Hears (now (words .exit)) o ⌝ }
+{
+    let mut buf = [0u8; 512];
+    let mut len = 0;
+    let mut end = false;
+    let mut r = 0;
+    loop {
+        let Window::Bytes { count, ended } = widen(&mut buf, len, end) else {
+            return Heard::Failed;
+        };
+        if count == 0 {
+            return Heard::Told {
+                read: Read::Words {
+                    count: 2 * r as u64,
+                },
+                ended,
+            };
+        }
+        if r == 256 {
+            return Heard::Told {
+                read: Read::Bad(Fault::Count(257)),
+                ended,
+            };
+        }
+        let Line::Good {
+            level,
+            threshold,
+            members,
+            used,
+        } = lines::line_at(&buf[..count], 0)
+        else {
+            return Heard::Told {
+                read: Read::Malformed { line: r as u64 + 1 },
+                ended,
+            };
+        };
+        words[2 * r] = threshold + 256 * level;
+        words[2 * r + 1] = members;
+        shift(&mut buf, used, count);
+        len = count - used;
+        end = ended;
+        r += 1;
+    }
+}
+
+// What follows a line that decides is read too, up to 65,536 bytes in all: of an input that fails nothing is reported.
+fn rest(ended: bool) -> bool {
+    let mut buf = [0u8; 512];
+    let mut done = ended;
+    let mut left: u64 = 33;
+    while !done && left > 0 {
+        let got = input::read_all(STDIN_FILENO, &mut buf);
+        let Got::Bytes { count } = got else {
+            return false;
+        };
+        done = count < 512;
+        left -= 1;
+    }
+    true
+}
+
+// The sheet that standard input holds, read into a table.
+pub fn take(table: &mut [u64]) -> Taken
+    requires { ⌜ length (now table) ≡ 512 ⌝ }
+    ensures { λ o. ⌜ TakesIn (now (table .exit)) o ⌝ }
+{
+    let Heard::Told { read, ended } = hear(table) else {
+        return Taken::Failed;
+    };
+    if !rest(ended) {
+        return Taken::Failed;
+    }
+    let Read::Words { count } = read else {
+        return Taken::Sheet(read);
+    };
+    let k = count as usize;
+    let checked = faults::check_table(&table[..k]);
+    let Checked::Sound {
+        nodes: _,
+        records: _,
+    } = checked
+    else {
+        return Taken::Sheet(Read::Bad(faults::fault_of(checked)));
+    };
+    Taken::Sheet(read)
+}
