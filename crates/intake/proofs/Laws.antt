@@ -172,9 +172,9 @@ unfolding Widens
 widened len b a x n ended w e = subst (Widens len b a) e w
 
 -- ---- what the lines came to is the answer, or checking them is
-pub heard : (a : List ℕ) (x : Heard) (r : Read) (ended : Bool) → Hears a x → x ≡ Hx.Told r ended → Lines a r ended
+pub heard : (a : List ℕ) (x : Heard) (r : Read) (ended : Bool) (bytes : ℕ) → Hears a x → x ≡ Hx.Told r ended bytes → Lines a r ended
 unfolding Hears
-heard a x r ended h e = subst (Hears a) e h
+heard a x r ended bytes h e = subst (Hears a) e h
 
 -- the sheet with nothing behind it
 abbrev pub whole : {o : List ℕ} {r : Read} {ended : Bool} → Lines o r ended → List ℕ

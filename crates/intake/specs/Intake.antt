@@ -33,7 +33,7 @@ pub record Lines (o : List ℕ) (r : Read) (ended : Bool) : Type 0 where
   pub takes : (rest : List ℕ) → (ended ≡ true → rest ≡ []) → Takes (sheetLines (sheet ++ rest)) o r
 
 unfoldable pub Hears : (after : List ℕ) → Heard → Type 0
-Hears a (Hx.Told r ended) = Lines a r ended
+Hears a (Hx.Told r ended bytes) = Lines a r ended
 Hears a Hx.Failed = Unit {0}
 
 -- The answer to reading some sheet, whose words stand at the front where it is good.

@@ -1,7 +1,7 @@
 // Reading a sheet from standard input as it comes in. Only a window of it is held, so that little stack is taken: a line has at most 188 bytes,
 // and its record is two words.
 ghost use mathlib.Core.Path.{_≡_};
-ghost use Prim.Native.Nat.{_-_, _≤_};
+ghost use Prim.Native.Nat.{_-_, _≤_, _<_};
 ghost use lib.ListN.{length, take, drop};
 ghost use Rattle.intake.specs.Intake.{Widens, Hears, TakesIn};
 use answers::Checked;
@@ -17,9 +17,13 @@ enum Window {
     Failed,
 }
 
-// What the lines came to, and whether the input had ended by then; or that a read failed.
+// What the lines came to, whether the input had ended by then, and how many bytes were read; or that a read failed.
 enum Heard {
-    Told { read: Read, ended: bool },
+    Told {
+        read: Read,
+        ended: bool,
+        bytes: usize,
+    },
     Failed,
 }
 
@@ -68,23 +72,27 @@ fn hear(words: &mut [u64]) -> Heard
     let mut buf = [0u8; 512];
     let mut len = 0;
     let mut end = false;
+    let mut bytes = 0;
     let mut r = 0;
     loop {
         let Window::Bytes { count, ended } = widen(&mut buf, len, end) else {
             return Heard::Failed;
         };
+        bytes += count - len;
         if count == 0 {
             return Heard::Told {
                 read: Read::Words {
                     count: 2 * r as u64,
                 },
                 ended,
+                bytes,
             };
         }
         if r == 256 {
             return Heard::Told {
                 read: Read::Bad(Fault::Count(257)),
                 ended,
+                bytes,
             };
         }
         let Line::Good {
@@ -97,6 +105,7 @@ fn hear(words: &mut [u64]) -> Heard
             return Heard::Told {
                 read: Read::Malformed { line: r as u64 + 1 },
                 ended,
+                bytes,
             };
         };
         words[2 * r] = threshold + 256 * level;
@@ -108,18 +117,43 @@ fn hear(words: &mut [u64]) -> Heard
     }
 }
 
-// What follows a line that decides is read too, up to 65,536 bytes in all: of an input that fails nothing is reported.
-fn rest(ended: bool) -> bool {
+// How many bytes to read next, so many being read: a window, or what is left of 65,536 bytes.
+fn next(bytes: usize) -> usize
+    ensures { λ o. ⌜ (o ≤ 512) × (bytes < 65536 → 0 < o) ⌝ }
+{
+    if bytes < 65024 {
+        return 512;
+    }
+    if bytes < 65536 {
+        return 65536 - bytes;
+    }
+    0
+}
+
+// Reads so many bytes more, which nobody looks at.
+fn skip(n: usize) -> Got
+    requires { ⌜ n ≤ 512 ⌝ }
+{
     let mut buf = [0u8; 512];
-    let mut done = ended;
-    let mut left: u64 = 33;
-    while !done && left > 0 {
-        let got = input::read_all(STDIN_FILENO, &mut buf);
+    input::read_all(STDIN_FILENO, &mut buf[..n])
+}
+
+// What follows a line that decides is read too, up to 65,536 bytes in all: of an input that fails nothing is reported.
+fn rest(ended: bool, bytes: usize) -> bool {
+    if ended {
+        return true;
+    }
+    let mut before = bytes;
+    while before < 65536 {
+        let n = next(before);
+        let got = skip(n);
         let Got::Bytes { count } = got else {
             return false;
         };
-        done = count < 512;
-        left -= 1;
+        if count < n {
+            return true;
+        }
+        before += n;
     }
     true
 }
@@ -129,10 +163,10 @@ pub fn take(table: &mut [u64]) -> Taken
     requires { ⌜ length (now table) ≡ 512 ⌝ }
     ensures { λ o. ⌜ TakesIn (now (table .exit)) o ⌝ }
 {
-    let Heard::Told { read, ended } = hear(table) else {
+    let Heard::Told { read, ended, bytes } = hear(table) else {
         return Taken::Failed;
     };
-    if !rest(ended) {
+    if !rest(ended, bytes) {
         return Taken::Failed;
     }
     let Read::Words { count } = read else {

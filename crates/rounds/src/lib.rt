@@ -18,7 +18,8 @@ pub fn satisfied(t: &[u64], heads: &[u64], with: u64, v: u64) -> bool
     requires { ⌜ Headed (now t) (now heads) × (v < nodesOf (now t)) ⌝ }
     ensures { λ o. ⌜ o ≡ satisfiedIs (now (t .entry)) with v ⌝ }
 {
-    satisfaction::satisfies(t, with, heads[v as usize] as usize)
+    let r = heads[v as usize] as usize;
+    satisfaction::enough(t, with, r) || satisfaction::satisfies(t, with, r)
 }
 
 // The greatest quorum within u with d counted out, and its rounds. A round that is not the last drops a node, so the rounds end.

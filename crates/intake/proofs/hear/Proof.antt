@@ -18,11 +18,11 @@ use Rattle.intake.proofs.hear.Statement.{statement}
 use Rattle.intake.proofs.hear.Tie as tie
 
 abbrev Inv-loop : tie.InvT-loop
-Inv-loop words₀ buf₀ len₀ end₀ r₀ words buf len end r =
-    (length words ≡ 512) × (length buf ≡ 512) × (len ≤ 512) × (r ≤ 256) × UpTo words (take len buf) r
+Inv-loop words₀ buf₀ len₀ end₀ bytes₀ r₀ words buf len end bytes r =
+    (length words ≡ 512) × (length buf ≡ 512) × (len ≤ 512) × (r ≤ 256) × UpTo words (take len buf) r × (bytes ≤ 512 * r)
 
 abbrev μ-loop : tie.MeasureT-loop
-μ-loop words₀ buf₀ len₀ end₀ r₀ words buf len end r = 256 - r
+μ-loop words₀ buf₀ len₀ end₀ bytes₀ r₀ words buf len end bytes r = 256 - r
 
 -- the window after reading on
 read-on : (c : tie.After-known-told Inv-loop μ-loop) →
@@ -57,7 +57,7 @@ here c =
     (grown (L .loop .len) n (L .loop .buf) a (f .0) (f .3))
 
 loop-holds : tie.Need-loop-holds Inv-loop μ-loop
-loop-holds c = let s = c .before in (s .pre, refl, omega arith, omega arith, at-first (s .args .words .now))
+loop-holds c = let s = c .before in (s .pre, refl, omega arith, omega arith, at-first (s .args .words .now), omega arith)
 
 slice-aggregate-widen : tie.Need-slice-aggregate-widen Inv-loop μ-loop
 slice-aggregate-widen c = search needs
@@ -78,8 +78,16 @@ returns : tie.Need-returns Inv-loop μ-loop
 unfolding Hears
 returns c = tt
 
-mul-t17 : tie.Need-mul-t17 Inv-loop μ-loop
-mul-t17 c =
+sub-bytes : tie.Need-sub-bytes Inv-loop μ-loop
+sub-bytes c = read-on c .0
+
+add-bytes : tie.Need-add-bytes Inv-loop μ-loop
+add-bytes c =
+    let L = c .before .before .before .before .before .before in
+    omega (arith, read-on c .1, L .loop .inv .3, L .loop .inv .5)
+
+mul-t19 : tie.Need-mul-t19 Inv-loop μ-loop
+mul-t19 c =
     let L = c .before .before .before .before .before .before .before in
     omega (arith, L .loop .inv .3)
 
@@ -119,8 +127,8 @@ enum-known-level c = search needs
 enum-told-2 : tie.Need-enum-told-2 Inv-loop μ-loop
 enum-told-2 c = search needs
 
-add-t25 : tie.Need-add-t25 Inv-loop μ-loop
-add-t25 c =
+add-t27 : tie.Need-add-t27 Inv-loop μ-loop
+add-t27 c =
     let L = c .before .before .before .before .before .before .before .before .before .before .before .before in
     omega (arith, L .loop .inv .3)
 
@@ -229,6 +237,7 @@ loop-again c =
       omega (arith, o .1),
       omega (arith, f .4),
       subst (λ (x : List ℕ). UpTo (set (set w (2 * r) (g .1 .0 + 256 * g .0)) (2 * r + 1) (g .1 .1 .0)) x (r + 1)) same next,
+      omega (arith, o .1, L .loop .inv .5),
     )
 
 pub hear-spec : {M : Type 1} → statement M
@@ -244,7 +253,9 @@ hear-spec =
     enum-told
     same-length
     returns
-    mul-t17
+    sub-bytes
+    add-bytes
+    mul-t19
     same-length-2
     returns-2
     same-length-3
@@ -254,7 +265,7 @@ hear-spec =
     line-at-requires
     enum-known-level
     enum-told-2
-    add-t25
+    add-t27
     same-length-4
     returns-4
     mul-words

@@ -17,7 +17,7 @@ use Rattle.intake.proofs.take.Tie as tie
 lines : (c : tie.After-known-told) → Lines (c .before .before .before .before .before .hear .last .0) (c .before .read .given .0 .0) (c .before .read .given .0 .1 .0)
 lines c =
     let H = c .before .before .before .before .before in
-    heard (H .hear .last .0) (H .hear .result) (c .before .read .given .0 .0) (c .before .read .given .0 .1 .0) (H .hear .ensures) (c .before .read .given .1)
+    heard (H .hear .last .0) (H .hear .result) (c .before .read .given .0 .0) (c .before .read .given .0 .1 .0) (c .before .read .given .0 .1 .1 .0) (H .hear .ensures) (c .before .read .given .1)
 
 -- as the words of a sheet
 counted : (c : tie.After-known-told2) →
