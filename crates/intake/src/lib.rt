@@ -19,11 +19,7 @@ enum Window {
 
 // What the lines came to, whether the input had ended by then, and how many bytes were read; or that a read failed.
 enum Heard {
-    Told {
-        read: Read,
-        ended: bool,
-        bytes: usize,
-    },
+    Told(Read, bool, usize),
     Failed,
 }
 
@@ -80,20 +76,11 @@ fn hear(words: &mut [u64]) -> Heard
         };
         bytes += count - len;
         if count == 0 {
-            return Heard::Told {
-                read: Read::Words {
-                    count: 2 * r as u64,
-                },
-                ended,
-                bytes,
-            };
+            let all = 2 * r as u64;
+            return Heard::Told(Read::Words { count: all }, ended, bytes);
         }
         if r == 256 {
-            return Heard::Told {
-                read: Read::Bad(Fault::Count(257)),
-                ended,
-                bytes,
-            };
+            return Heard::Told(Read::Bad(Fault::Count(257)), ended, bytes);
         }
         let Line::Good {
             level,
@@ -102,11 +89,7 @@ fn hear(words: &mut [u64]) -> Heard
             used,
         } = lines::line_at(&buf[..count], 0)
         else {
-            return Heard::Told {
-                read: Read::Malformed { line: r as u64 + 1 },
-                ended,
-                bytes,
-            };
+            return Heard::Told(Read::Malformed { line: r as u64 + 1 }, ended, bytes);
         };
         words[2 * r] = threshold + 256 * level;
         words[2 * r + 1] = members;
@@ -163,7 +146,7 @@ pub fn take(table: &mut [u64]) -> Taken
     requires { ⌜ length (now table) ≡ 512 ⌝ }
     ensures { λ o. ⌜ TakesIn (now (table .exit)) o ⌝ }
 {
-    let Heard::Told { read, ended, bytes } = hear(table) else {
+    let Heard::Told(read, ended, bytes) = hear(table) else {
         return Taken::Failed;
     };
     if !rest(ended, bytes) {

@@ -86,8 +86,8 @@ add-bytes c =
     let L = c .before .before .before .before .before .before in
     omega (arith, read-on c .1, L .loop .inv .3, L .loop .inv .5)
 
-mul-t19 : tie.Need-mul-t19 Inv-loop μ-loop
-mul-t19 c =
+mul-all : tie.Need-mul-all Inv-loop μ-loop
+mul-all c =
     let L = c .before .before .before .before .before .before .before in
     omega (arith, L .loop .inv .3)
 
@@ -255,7 +255,7 @@ hear-spec =
     returns
     sub-bytes
     add-bytes
-    mul-t19
+    mul-all
     same-length-2
     returns-2
     same-length-3
