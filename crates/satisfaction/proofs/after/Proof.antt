@@ -80,6 +80,13 @@ returns-3 c =
     ∙ ap (λ (x : ℕ). leb (w .outer) (owed (w .inner) (bump (leb x (still t u (suc (suc k)) (j + 1))) (still t u (suc k) (j + 1))) + still t u k (j + 1))) (K .lacking2 .ensures)
     ∙ sym (given-second t u k j (s .pre .0) (s .pre .1) (w .outer) (w .inner) (w .inmost) at)
 
+-- a record that is neither right below the set that is judged nor one level further down
+third-level : (c : tie.Else3) → let s = c .before .before .before .before .before .before in suc (suc (s .args .above)) < level (s .args .t .now) (s .args .j)
+third-level c =
+    let L = c .before .before .before .before in
+    let s = L .before .before in
+    omega (arith, L .level .ensures .0, c .before .before .before .if1 .left, c .if3 .left, s .pre .2)
+
 returns-4 : tie.Need-returns-4
 returns-4 c =
     let F = c .before .before in
@@ -90,7 +97,7 @@ returns-4 c =
     let k = s .args .above in
     let j = s .args .j in
     let w = s .args .w in
-    let below : suc (suc k) < level t j = omega (arith, L .level .ensures .0, F .before .before .before .if1 .left, F .if3 .left, s .pre .2) in
+    let below = third-level F in
     let none : w .inmost ≡ 0 = c .if4 .taken in
     ap (λ (x : ℕ). comes (w .outer) (w .inner) x (still t u (suc (suc k)) (j + 1)) (still t u (suc k) (j + 1)) (still t u k (j + 1))) none
     ∙ past-inner t u k j (s .pre .0) (s .pre .1) (w .outer) (w .inner) below
@@ -110,7 +117,7 @@ returns-5 c =
     let k = s .args .above in
     let j = s .args .j in
     let w = s .args .w in
-    let below : suc (suc k) < level t j = omega (arith, L .level .ensures .0, F .before .before .before .if1 .left, F .if3 .left, s .pre .2) in
+    let below = third-level F in
     let some : 0 < lack t u j = omega (arith, K .lacking3 .ensures, c .if5 .taken) in
     let same : still t u (suc (suc k)) j ≡ still t u (suc (suc k)) (j + 1) =
     third-here t u k j (s .pre .0) (s .pre .1) below
@@ -132,7 +139,7 @@ returns-6 c =
     let k = s .args .above in
     let j = s .args .j in
     let w = s .args .w in
-    let below : suc (suc k) < level t j = omega (arith, L .level .ensures .0, F .before .before .before .if1 .left, F .if3 .left, s .pre .2) in
+    let below = third-level F in
     let none : lack t u j ≡ 0 = sym (K .lacking3 .ensures) ∙ c .before .if5 .left in
     let more : still t u (suc (suc k)) j ≡ suc (still t u (suc (suc k)) (j + 1)) =
     third-here t u k j (s .pre .0) (s .pre .1) below
