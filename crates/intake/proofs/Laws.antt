@@ -6,10 +6,14 @@ use mathlib.Core.Path.{_≡_, refl, sym, ap, _∙_, subst}
 use mathlib.Core.Bool.{Bool, true, false}
 use mathlib.Core.Logic.{⊎-elim}
 use mathlib.Core.List.{List, [], _∷_, _++_, append-assoc, append-nil}
+use borrow.Author.Tests.{ltb-false}
 use lib.ListN.{length, take, drop, set, getD, length-append, length-take, length-drop, take-append-drop}
 use lib.Seq.{getD-drop, paste, drop-paste, length-take-le, take-add, take-append-seam, drop-append-seam, drop-append-le, drop-append-add}
 use borrow.Rule.Slice.PartMut.{putMid}
 use Rattle.sets.proofs.Bools.{either}
+use Rattle.input.specs.declared.Got.{Got}
+use Rattle.input.specs.declared.Got.the-variants as Gx
+use Rattle.input.specs.Reading.{Within}
 use Rattle.lines.specs.Lines.{readLine}
 use Rattle.lines.specs.declared.Line.{Line}
 use Rattle.lines.specs.declared.Line.the-variants.{Good, Bad}
@@ -35,7 +39,7 @@ use Rattle.intake.specs.declared.Heard.{Heard}
 use Rattle.intake.specs.declared.Heard.the-variants as Hx
 use Rattle.intake.specs.declared.Taken.{Taken}
 use Rattle.intake.specs.declared.Taken.the-variants as Tx
-use Rattle.intake.specs.Intake.{Widens, UpTo, Lines, Hears, WasRead, TakesIn}
+use Rattle.intake.specs.Intake.{FitsIn, filledIs, Widens, UpTo, Lines, Hears, WasRead, TakesIn}
 
 -- what is put back in the place of the end of a list is as long as that
 pub part-length : (a : ℕ) (xs ys : List ℕ) → a ≤ length xs → length (putMid a (length xs - a) xs ys) ≡ length xs → length ys ≡ length xs - a
@@ -164,6 +168,22 @@ pub grown : (len n : ℕ) (b a : List ℕ) → len ≤ n → take len a ≡ take
 grown len n b a h e =
     let s : n ≡ len + (n - len) = omega arith in
     ap (λ (k : ℕ). take k a) s ∙ take-add len (n - len) a ∙ ap (λ (x : List ℕ). x ++ take (n - len) (drop len a)) e
+
+-- what was read behind the bytes in hand has room, and makes a window
+module _ (len : ℕ) (b a part : List ℕ) (h : len ≤ 512) (n : length part ≡ 512 - len) where
+  pub read-fits : (got : Got) → Within got part → FitsIn len got
+  unfolding FitsIn
+  read-fits (Gx.Bytes count) w = omega (arith, w .0)
+  read-fits Gx.Failed w = tt
+
+  pub read-widens : (got : Got) → Within got part → length a ≡ 512 → take len a ≡ take len b → Widens len b a (filledIs len got)
+  unfolding Widens filledIs
+  read-widens (Gx.Bytes count) w l e = (omega arith, omega (arith, w .0), l, e, λ f. let g = ltb-false (len + count) 512 f in omega arith)
+  read-widens Gx.Failed w l e = tt
+
+pub fits-bytes : (len : ℕ) (got : Got) (count : ℕ) → FitsIn len got → got ≡ Gx.Bytes count → len + count ≤ 512
+unfolding FitsIn
+fits-bytes len got count h e = subst (FitsIn len) e h
 
 -- a window that was told to have so many bytes
 pub widened : (len : ℕ) (b a : List ℕ) (x : Window) (n : ℕ) (ended : Bool) → Widens len b a x → x ≡ Wx.Bytes n ended

@@ -3,7 +3,7 @@
 ghost use mathlib.Core.Path.{_≡_};
 ghost use Prim.Native.Nat.{_-_, _≤_, _<_};
 ghost use lib.ListN.{length, take, drop};
-ghost use Rattle.intake.specs.Intake.{Widens, Hears, TakesIn};
+ghost use Rattle.intake.specs.Intake.{FitsIn, filledIs, Widens, Hears, TakesIn};
 use answers::Checked;
 use answers::Fault;
 use answers::Read;
@@ -29,15 +29,11 @@ pub enum Taken {
     Failed,
 }
 
-// Reads on where the bytes at hand may be less than a line. Less than a full window is read only at the end.
-fn widen(buf: &mut [u8], len: usize, ended: bool) -> Window
-    requires { ⌜ (length (now buf) ≡ 512) × (len ≤ 512) ⌝ }
-    ensures { λ o. ⌜ Widens len (now (buf .entry)) (now (buf .exit)) o ⌝ }
+// What a read behind so many bytes comes to: a window that it did not fill is the last, and a failure is never the end.
+fn filled(len: usize, got: Got) -> Window
+    requires { ⌜ FitsIn len got ⌝ }
+    ensures { λ o. ⌜ o ≡ filledIs len got ⌝ }
 {
-    if ended || 188 <= len {
-        return Window::Bytes { count: len, ended };
-    }
-    let got = input::read_all(STDIN_FILENO, &mut buf[len..]);
     let Got::Bytes { count } = got else {
         return Window::Failed;
     };
@@ -46,6 +42,18 @@ fn widen(buf: &mut [u8], len: usize, ended: bool) -> Window
         count: all,
         ended: all < 512,
     }
+}
+
+// Reads on where the bytes at hand may be less than a line.
+fn widen(buf: &mut [u8], len: usize, ended: bool) -> Window
+    requires { ⌜ (length (now buf) ≡ 512) × (len ≤ 512) ⌝ }
+    ensures { λ o. ⌜ Widens len (now (buf .entry)) (now (buf .exit)) o ⌝ }
+{
+    if ended || 188 <= len {
+        return Window::Bytes { count: len, ended };
+    }
+    let got = input::read_all(STDIN_FILENO, &mut buf[len..]);
+    filled(len, got)
 }
 
 // Drops the first bytes of the window: the others move to the front.

@@ -1,6 +1,6 @@
 // The report on standard output, one line after the other, within a small stack: the same lines that `report` puts into a buffer. Which
-// bytes the system writes no contract can say; each function that prints a part is told how many bytes are handed over before it, and asks
-// that the part stands there in the report.
+// bytes the system writes no contract can say; each function that prints a part of the report on a table is told how many bytes are handed over
+// before it, and asks that the part stands there in the report.
 ghost use mathlib.Core.Path.{_≡_};
 ghost use mathlib.Core.Bool.{cond};
 ghost use Prim.Native.Nat.{_≤_};

@@ -135,7 +135,7 @@ module _ (t : List ℕ) (u k j : ℕ) (e : check t ≡ sound) (l : j < records t
       (λ (p : holds t u j ≡ false). from-miss (holds t u) t i j l h p ∙ sym (ap (λ (b : Bool). bump b (still t u i (j + 1))) (sym s ∙ p)))
       (either (holds t u j))
 
-  -- above it the walks end, and further up they pass it by
+  -- walks for sets at its level or a higher one end there, and those for sets two levels lower or more pass it by
   still-end : (i : ℕ) → level t j ≤ i → still t u i j ≡ 0
   still-end i h = from-stop (holds t u) t i j h
 

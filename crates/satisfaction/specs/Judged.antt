@@ -15,6 +15,6 @@ holds t u r = satisfies 3 t u r
 abbrev pub lack : List ℕ → ℕ → ℕ → ℕ
 lack t u r = threshold t r - size 64 (members t r ∩ u)
 
--- how many sets right below level k a walk still meets that u satisfies, from record j up to the first at level k or above it
+-- how many sets at level k + 1 a walk still meets that u satisfies, from record j up to the first at level k or a lower one
 abbrev pub still : List ℕ → ℕ → ℕ → ℕ → ℕ
 still t u k j = innerRun (holds t u) t k (records t - j) j

@@ -147,7 +147,7 @@ fn after(t: &[u64], u: u64, above: u64, j: usize, w: Wanted) -> Wanted
     gain_inmost(w)
 }
 
-// Whether u satisfies as many inner sets of record r as are wanted: the records after it, up to the first at its level or above.
+// Whether u satisfies as many inner sets of record r as are wanted: they lie in the records after it, up to the first at its level or a lower one.
 fn inner_enough(t: &[u64], u: u64, r: usize, wanted: u64) -> bool
     requires { ⌜ (check (now t) ≡ sound) × (r < records (now t)) × (0 < wanted) ⌝ }
     ensures { λ o. ⌜ o ≡ leb wanted (still (now (t .entry)) u (levelOf (now (t .entry)) r) (r + 1)) ⌝ }
