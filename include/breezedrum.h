@@ -17,8 +17,8 @@
  * Threads: nothing is kept between calls and there are no globals, so several threads may call at once. Two calls may read one input; a
  * lent buffer belongs to one call until it returns.
  *
- * Stack (bench/stack): at most 60,584 bytes were measured for a report, 38,584 for a list, 25,320 for a verdict or the intact nodes, 4,544
- * for reading a sheet, 1,032 for anything else, on tables of 64 nodes and 256 records whose searches go as deep as they can: the depth is
+ * Stack (bench/stack): at most 59,320 bytes were measured for a report, 37,320 for a list, 25,096 for a verdict or the intact nodes, 4,544
+ * for reading a sheet, 832 for anything else, on tables of 64 nodes and 256 records whose searches go as deep as they can: the depth is
  * bounded by the nodes, whatever the allowance. A thread with 96 KiB of stack is enough for a report, one with 64 KiB for all the others.
  *
  *   number  when                                                   also given
