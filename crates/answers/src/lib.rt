@@ -11,7 +11,7 @@ pub enum Fault {
     Level(u64),
     // 4: a 65th level 0 record
     Nodes(u64),
-    // 5: threshold 0
+    // 5: threshold 0, where the record is no unknown archive; or a written 0
     Threshold(u64),
     // 6: a member that is no node
     Member(u64),

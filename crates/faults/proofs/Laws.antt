@@ -1,7 +1,7 @@
 -- The steps of a walk that looks for the first fault. At a record with one, the answer there is the answer of the whole walk; past
 -- a record with none, the walk from the next record on decides.
 use mathlib.Core.Path.{_≡_, refl, sym, ap, ap₂, _∙_, subst}
-use mathlib.Core.Bool.{true, false, not, _||_}
+use mathlib.Core.Bool.{Bool, true, false, not, _||_}
 use mathlib.Core.List.{List, [], _∷_}
 use Prim.Native.Nat.{ℕ, zero, suc, _+_, _-_, _/_, _%_, _^_, _≤_, _<_}
 use native.Mathlib.Nat.{div-eq-of-lt, div-lt-iff-lt-mul, one-mul}
@@ -14,13 +14,13 @@ use lib.Count.{ones}
 use lib.Pow.{pow-pos}
 use Rattle.sets.specs.Sets.{everyone, within}
 use Rattle.sets.specs.Lists.{from}
-use Rattle.sets.proofs.Bools.{or-left, or-right, and-both, and-left-fails, and-right-fails, bool-ext}
+use Rattle.sets.proofs.Bools.{or-left, or-right, and-both, and-left-fails, and-right-fails, bool-ext, fails}
 use Rattle.sets.proofs.Members.{everyone-lt, everyone-all, within-lt, sub-within}
 use Rattle.sets.proofs.Size.{ones-size, size-le}
-use Rattle.meanings.specs.Table.{records, control, threshold, level, members, nodes, entries}
-use Rattle.meanings.specs.Faults.{Check, sound, fault, orElse, firstFault, badCount, badControl, badLevel, surplus, noThreshold, strangers, tooHigh, shapeFault, entryFault, check}
+use Rattle.meanings.specs.Table.{records, control, threshold, level, members, nodes, innerSets, entries, unknown}
+use Rattle.meanings.specs.Faults.{Check, sound, fault, orElse, faultIf, firstFault, badCount, badControl, badLevel, surplus, noThreshold, strangers, tooHigh, shapeFault, lineFault, entryFault, checkBy, checkLines}
 use Rattle.meanings.specs.Replies.{Reply, reply, _is_, Place, Nodes, Records, value}
-use Rattle.meanings.specs.Questions.{onCheck, checkReply}
+use Rattle.meanings.specs.Questions.{onCheck}
 use Rattle.answers.specs.declared.Fault.{Fault}
 use Rattle.answers.specs.declared.Fault.the-variants as Fx
 use Rattle.answers.specs.declared.Checked.{Checked}
@@ -28,8 +28,9 @@ use Rattle.answers.specs.declared.Checked.the-variants as Cx
 use Rattle.answers.specs.Said.{faultSays, checkedSays}
 use Rattle.tables.specs.Heads.{headsBefore}
 use Rattle.tables.proofs.Runs.{innerFrom, inner-count}
+use Rattle.tables.proofs.Unknown.{UnknownRecord, unknown-record, record-unknown}
 use Rattle.tables.proofs.Sound.{shapes-in-step}
-use Rattle.faults.specs.Walk.{counted, highest, shapesFrom, entriesFrom, Shapely}
+use Rattle.faults.specs.Walk.{counted, highest, linesFrom, entriesFrom, Shapely, linesReply}
 
 -- ---- the first fault, from a record on
 module _ (f : ℕ → Check) (t : List ℕ) where
@@ -57,7 +58,7 @@ counted-back (fault x p) n k m j e =
     let z : _≡_ {A = ℕ} 2 1 = ap (λ (y : Reply). length (y .names)) e in
     absurd (omega arith)
 
-fault-number : (f : Fault) → 0 < faultSays f .number
+pub fault-number : (f : Fault) → 0 < faultSays f .number
 fault-number (Fx.Count p) = omega arith
 fault-number (Fx.Control p) = omega arith
 fault-number (Fx.Level p) = omega arith
@@ -101,21 +102,19 @@ module _ (f : ℕ → Check) (t : List ℕ) (all : Check) (r : ℕ) (from-here :
       ap₂ counted e d ∙ ap (λ (c : Check). onCheck c (counted m (records t))) (sym (from-here ∙ first-end f t r l))
 
 -- ---- the whole check: 1, then the first pass, then the second
-module _ (t : List ℕ) where
-  bad-count : badCount t ≡ true → check t ≡ fault 1 0
-  unfolding check
-  bad-count e = rw (check, e)
+module _ (nought : ℕ) (t : List ℕ) where
+  bad-count : badCount t ≡ true → checkLines nought t ≡ fault 1 0
+  unfolding checkLines checkBy
+  bad-count e = rw (checkBy, e)
 
-  good-count : badCount t ≡ false → check t ≡ orElse (shapesFrom t 0 (records t)) (entriesFrom t 0 (records t))
-  unfolding check
-  good-count e = rw (check, e)
+  good-count : badCount t ≡ false → checkLines nought t ≡ orElse (linesFrom nought t 0 (records t)) (entriesFrom t 0 (records t))
+  unfolding checkLines checkBy
+  good-count e = rw (checkBy, e)
 
-  pub count-first : badCount t ≡ true → checkReply t ≡ reply 1 (Place is 0 ∷ [])
-  unfolding checkReply
+  pub count-first : badCount t ≡ true → linesReply nought t ≡ reply 1 (Place is 0 ∷ [])
   count-first e = ap (λ (c : Check). onCheck c (counted (nodes t) (records t))) (bad-count e)
 
-  pub then-passes : badCount t ≡ false → checkReply t ≡ onCheck (orElse (shapesFrom t 0 (records t)) (entriesFrom t 0 (records t))) (counted (nodes t) (records t))
-  unfolding checkReply
+  pub then-passes : badCount t ≡ false → linesReply nought t ≡ onCheck (orElse (linesFrom nought t 0 (records t)) (entriesFrom t 0 (records t))) (counted (nodes t) (records t))
   then-passes e = ap (λ (c : Check). onCheck c (counted (nodes t) (records t))) (good-count e)
 
 -- ---- what one record meets, by the tests in order; places count from 1
@@ -146,6 +145,18 @@ module _ (t : List ℕ) (r : ℕ) where
   pub meets-6 : strangers t r ≡ true → entryFault t r ≡ fault 6 (r + 1)
   unfolding entryFault
   meets-6 e = rw (entryFault, e, add-one)
+
+  -- the record of a line that meets none of 2 to 5: a written 0, and any other
+  module _ (nought : ℕ) (e : shapeFault t r ≡ sound) where
+    written : (b : Bool) → eqb (suc r) nought ≡ b → lineFault nought t r ≡ faultIf b 5 (r + 1)
+    unfolding lineFault
+    written b d = rw (lineFault, e, d, add-one)
+
+    pub written-zero : r + 1 ≡ nought → lineFault nought t r ≡ fault 5 (r + 1)
+    written-zero d = written true (eq-eqb (suc r) nought (omega arith))
+
+    pub none-written : ¬ (r + 1 ≡ nought) → lineFault nought t r ≡ sound
+    none-written d = written false (ne-eqb (suc r) nought (λ q. d (omega arith)))
 
   module _ (e6 : strangers t r ≡ false) where
     pub meets-7 : tooHigh t r ≡ true → entryFault t r ≡ fault 7 (r + 1)
@@ -214,13 +225,31 @@ module _ (t : List ℕ) (r : ℕ) where
   unfolding surplus
   room-left e = and-right-fails (eqb (level t r) 0) (eqb (headsBefore t r) 64) (ne-eqb (headsBefore t r) 64 e)
 
-  pub zero-threshold : threshold t r ≡ 0 → noThreshold t r ≡ true
-  unfolding noThreshold
-  zero-threshold e = eq-eqb (threshold t r) 0 e
-
+  -- threshold 0, by the tests in order: a record above level 0, one with members, one with inner sets, and an unknown archive
   pub some-threshold : ¬ (threshold t r ≡ 0) → noThreshold t r ≡ false
   unfolding noThreshold
-  some-threshold e = ne-eqb (threshold t r) 0 e
+  some-threshold e = and-left-fails (eqb (threshold t r) 0) (not (unknown t r)) (ne-eqb (threshold t r) 0 e)
+
+  module _ (e5 : threshold t r ≡ 0) where
+    not-unknown : (UnknownRecord t r → ⊥) → noThreshold t r ≡ true
+    unfolding noThreshold
+    not-unknown f =
+        and-both (eqb (threshold t r) 0) (not (unknown t r)) (eq-eqb (threshold t r) 0 e5) (ap not (fails (unknown t r) (λ e. f (unknown-record t r e))))
+
+    pub deep-zero : ¬ (level t r ≡ 0) → noThreshold t r ≡ true
+    deep-zero h = not-unknown (λ u. h (u .head))
+
+    pub members-zero : ¬ (members t r ≡ 0) → noThreshold t r ≡ true
+    members-zero h = not-unknown (λ u. h (u .no-members))
+
+    pub inner-zero : ¬ (length (innerSets t r) ≡ 0) → noThreshold t r ≡ true
+    inner-zero h = not-unknown (λ u. h (u .no-inner))
+
+    pub unknown-fits : level t r ≡ 0 → members t r ≡ 0 → length (innerSets t r) ≡ 0 → noThreshold t r ≡ false
+    unfolding noThreshold
+    unknown-fits a b c =
+        and-right-fails (eqb (threshold t r) 0) (not (unknown t r))
+        (ap not (record-unknown t r (record { no-threshold = e5; head = a; no-members = b; no-inner = c })))
 
   pub strangers-are : (m n : ℕ) → m ≡ members t r → n ≡ nodes t → not (within m (everyone n)) ≡ strangers t r
   unfolding strangers

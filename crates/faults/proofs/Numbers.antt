@@ -8,10 +8,11 @@ use mathlib.Core.Logic.{⊎-elim}
 use Prim.Native.Nat.{ℕ, suc, _≤_, _<_}
 use native.Mathlib.Omega.{arith}
 use borrow.Author.Tests.{le-leb, lt-leb}
+use lib.Dec.{eqb}
 use Rattle.sets.specs.Lists.{from}
 use Rattle.sets.proofs.Size.{le-or-lt}
 use Rattle.meanings.specs.Table.{records}
-use Rattle.meanings.specs.Faults.{Check, sound, fault, orElse, faultIf, firstFault, badCount, badControl, badLevel, surplus, noThreshold, strangers, tooHigh, shapeFault, entryFault, check}
+use Rattle.meanings.specs.Faults.{Check, sound, fault, orElse, faultIf, firstFault, badCount, badControl, badLevel, surplus, noThreshold, strangers, tooHigh, shapeFault, lineFault, entryFault, checkBy, check, checkLines}
 use Rattle.meanings.specs.Replies.{Reply, reply, _is_, Visits}
 use Rattle.meanings.specs.Questions.{onCheck, inNodes, inAllowance}
 
@@ -61,14 +62,26 @@ module _ (t : List ℕ) where
   by-count true c h = fault-numbered 1 0 (omega arith, omega arith)
   by-count false c h = h
 
+  by-numbered : (f : ℕ → Check) → ((r : ℕ) → Numbered (f r)) → Numbered (checkBy f t)
+  unfolding checkBy
+  by-numbered f h =
+      let a = firstFault f (from 0 (records t)) in
+      let b = firstFault (entryFault t) (from 0 (records t)) in
+      by-count (badCount t) (orElse a b) (or-numbered a b (first-numbered f h (from 0 (records t))) (first-numbered (entryFault t) entry-numbered (from 0 (records t))))
+
   pub check-numbered : Numbered (check t)
   unfolding check
-  check-numbered =
-      let a = firstFault (shapeFault t) (from 0 (records t)) in
-      let b = firstFault (entryFault t) (from 0 (records t)) in
-      by-count (badCount t) (orElse a b)
-      (or-numbered a b (first-numbered (shapeFault t) shape-numbered (from 0 (records t)))
-      (first-numbered (entryFault t) entry-numbered (from 0 (records t))))
+  check-numbered = by-numbered (shapeFault t) shape-numbered
+
+  line-numbered : (nought r : ℕ) → Numbered (lineFault nought t r)
+  unfolding lineFault
+  line-numbered nought r =
+      or-numbered (shapeFault t r) (faultIf (eqb (suc r) nought) 5 (suc r)) (shape-numbered r)
+      (if-numbered (eqb (suc r) nought) 5 (suc r) (omega arith, omega arith))
+
+  pub lines-numbered : (nought : ℕ) → Numbered (checkLines nought t)
+  unfolding checkLines
+  lines-numbered nought = by-numbered (lineFault nought t) (line-numbered nought)
 
 -- ---- the opening of a reply: the faults of the table, then 8
 -- a number that the opening does not give: 0, or 9 and above

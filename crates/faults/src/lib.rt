@@ -1,5 +1,6 @@
 // Is this list of words a packed table? SPECIFICATION 1 and 7, numbers 1 to 7. Every question opens with it: a fault is handed on
-// (`fault_of`), and then its sets must lie within the nodes (`inside`), or the number is 8.
+// (`fault_of`), and then its sets must lie within the nodes (`inside`), or the number is 8. The records of a sheet's lines are checked the same
+// way, but that a written 0 is no unknown archive's threshold (`check_lines`).
 // Two passes over the records: the first finds any of 2 to 5 and counts the nodes, the second finds 6 or 7. A record's inner sets
 // are counted by walking the run of deeper records after it, so each record is walked by those above it, three at most.
 ghost use mathlib.Core.Path.{_≡_};
@@ -8,14 +9,14 @@ ghost use Prim.Native.Nat.{_+_, _*_, _<_, _≤_, _-_};
 ghost use lib.ListN.{length};
 ghost use Rattle.sets.specs.Sets.{within, everyone};
 ghost use Rattle.meanings.specs.Table.{records, nodes as nodesOf, level as levelOf, entries as entriesOf};
-ghost use Rattle.meanings.specs.Faults.{badCount, shapeFault, entryFault};
+ghost use Rattle.meanings.specs.Faults.{badCount, noThreshold, shapeFault, lineFault, entryFault};
 ghost use Rattle.meanings.specs.Questions.{checkReply, onCheck};
 ghost use Rattle.answers.specs.declared.Fault.{Fault as FaultOf};
 ghost use Rattle.answers.specs.declared.Checked.the-variants as Cx;
 ghost use Rattle.answers.specs.Said.{checkedSays};
 ghost use Rattle.tables.specs.Run.{innerRun};
 ghost use Rattle.tables.specs.Heads.{headsBefore};
-ghost use Rattle.faults.specs.Walk.{counted, highest as highestOf, shapesFrom, entriesFrom, Shapely};
+ghost use Rattle.faults.specs.Walk.{counted, highest as highestOf, linesFrom, entriesFrom, Shapely, linesReply};
 use answers::Checked;
 use answers::Fault;
 
@@ -44,61 +45,6 @@ fn highest(t: &[u64], r: usize) -> u64
     tables::level(t, r - 1) + 1
 }
 
-// Record r, with so many nodes before it: the first of 2 to 5 that it meets, or the nodes and records up to its end.
-fn shape(t: &[u64], r: usize, nodes: u64) -> Checked
-    requires { ⌜ (2 * r + 1 < length (now t)) × (nodes ≡ headsBefore (now t) r) ⌝ }
-    ensures { λ o. ⌜ checkedSays o ≡ onCheck (shapeFault (now (t .entry)) r) (counted (headsBefore (now (t .entry)) (r + 1)) (r + 1)) ⌝ }
-{
-    let place = r as u64 + 1;
-    if 1024 <= tables::control(t, r) {
-        return Checked::Bad(Fault::Control(place));
-    }
-    let level = tables::level(t, r);
-    if highest(t, r) < level {
-        return Checked::Bad(Fault::Level(place));
-    }
-    if level == 0 && nodes == 64 {
-        return Checked::Bad(Fault::Nodes(place));
-    }
-    if tables::threshold(t, r) == 0 {
-        return Checked::Bad(Fault::Threshold(place));
-    }
-    if level == 0 {
-        return Checked::Sound {
-            nodes: nodes + 1,
-            records: place,
-        };
-    }
-    Checked::Sound {
-        nodes,
-        records: place,
-    }
-}
-
-// The first record that meets any of 2 to 5, or the nodes and records of the table.
-fn shapes(t: &[u64]) -> Checked
-    ensures { λ o. ⌜ checkedSays o ≡ onCheck (shapesFrom (now (t .entry)) 0 (records (now (t .entry)))) (counted (nodesOf (now (t .entry))) (records (now (t .entry)))) ⌝ }
-{
-    let mut nodes = 0u64;
-    let mut r = 0;
-    while r < t.len() / 2 {
-        let here = shape(t, r, nodes);
-        let Checked::Sound {
-            nodes: more,
-            records: _,
-        } = here
-        else {
-            return here;
-        };
-        nodes = more;
-        r += 1;
-    }
-    Checked::Sound {
-        nodes,
-        records: r as u64,
-    }
-}
-
 // How many direct inner sets record r has: the records one level deeper in the run of deeper records after it.
 fn inner_sets(t: &[u64], r: usize) -> u64
     requires { ⌜ 2 * r + 1 < length (now t) ⌝ }
@@ -118,6 +64,97 @@ fn inner_sets(t: &[u64], r: usize) -> u64
         j += 1;
     }
     count
+}
+
+// Whether record r has threshold 0 and is no unknown archive: its level is above 0, or it has members or inner sets.
+fn no_threshold(t: &[u64], r: usize) -> bool
+    requires { ⌜ 2 * r + 1 < length (now t) ⌝ }
+    ensures { λ o. ⌜ o ≡ noThreshold (now (t .entry)) r ⌝ }
+{
+    if tables::threshold(t, r) != 0 {
+        return false;
+    }
+    if tables::level(t, r) != 0 {
+        return true;
+    }
+    if tables::members(t, r) != 0 {
+        return true;
+    }
+    inner_sets(t, r) != 0
+}
+
+// Record r, with so many nodes before it: the first of 2 to 5 that it meets, or the nodes and records up to its end.
+fn shape(t: &[u64], r: usize, nodes: u64) -> Checked
+    requires { ⌜ (2 * r + 1 < length (now t)) × (nodes ≡ headsBefore (now t) r) ⌝ }
+    ensures { λ o. ⌜ checkedSays o ≡ onCheck (shapeFault (now (t .entry)) r) (counted (headsBefore (now (t .entry)) (r + 1)) (r + 1)) ⌝ }
+{
+    let place = r as u64 + 1;
+    if 1024 <= tables::control(t, r) {
+        return Checked::Bad(Fault::Control(place));
+    }
+    let level = tables::level(t, r);
+    if highest(t, r) < level {
+        return Checked::Bad(Fault::Level(place));
+    }
+    if level == 0 && nodes == 64 {
+        return Checked::Bad(Fault::Nodes(place));
+    }
+    if no_threshold(t, r) {
+        return Checked::Bad(Fault::Threshold(place));
+    }
+    if level == 0 {
+        return Checked::Sound {
+            nodes: nodes + 1,
+            records: place,
+        };
+    }
+    Checked::Sound {
+        nodes,
+        records: place,
+    }
+}
+
+// The same of a line's record: a written 0 is a threshold of 0, whatever else the record has.
+fn line(t: &[u64], r: usize, nodes: u64, nought: u64) -> Checked
+    requires { ⌜ (2 * r + 1 < length (now t)) × (nodes ≡ headsBefore (now t) r) ⌝ }
+    ensures { λ o. ⌜ checkedSays o ≡ onCheck (lineFault nought (now (t .entry)) r) (counted (headsBefore (now (t .entry)) (r + 1)) (r + 1)) ⌝ }
+{
+    let here = shape(t, r, nodes);
+    let Checked::Sound {
+        nodes: _,
+        records: place,
+    } = here
+    else {
+        return here;
+    };
+    if place == nought {
+        return Checked::Bad(Fault::Threshold(nought));
+    }
+    here
+}
+
+// The first record that meets any of 2 to 5, or the nodes and records of the table.
+fn shapes(t: &[u64], nought: u64) -> Checked
+    ensures { λ o. ⌜ checkedSays o ≡ onCheck (linesFrom nought (now (t .entry)) 0 (records (now (t .entry)))) (counted (nodesOf (now (t .entry))) (records (now (t .entry)))) ⌝ }
+{
+    let mut nodes = 0u64;
+    let mut r = 0;
+    while r < t.len() / 2 {
+        let here = line(t, r, nodes, nought);
+        let Checked::Sound {
+            nodes: more,
+            records: _,
+        } = here
+        else {
+            return here;
+        };
+        nodes = more;
+        r += 1;
+    }
+    Checked::Sound {
+        nodes,
+        records: r as u64,
+    }
 }
 
 // The entries of record r: its members and its direct inner sets.
@@ -180,18 +217,26 @@ fn all_entries(t: &[u64], nodes: u64) -> Checked
     }
 }
 
-// Order: 1; then the first record that meets any of 2 to 5, lowest number first; then the first that meets 6 or 7, 6 first.
-pub fn check_table(table: &[u64]) -> Checked
-    ensures { λ r. ⌜ checkedSays r ≡ checkReply (now (table .entry)) ⌝ }
+// Order: 1; then the first record that meets any of 2 to 5, lowest number first; then the first that meets 6 or 7, 6 first. The records are those of
+// a sheet's lines, and `nought` is the first line whose threshold is a written 0, or 0.
+pub fn check_lines(table: &[u64], nought: u64) -> Checked
+    ensures { λ r. ⌜ checkedSays r ≡ linesReply nought (now (table .entry)) ⌝ }
 {
     if bad_count(table) {
         return Checked::Bad(Fault::Count(0));
     }
-    let shape = shapes(table);
+    let shape = shapes(table, nought);
     let Checked::Sound { nodes, records: _ } = shape else {
         return shape;
     };
     all_entries(table, nodes)
+}
+
+// A table is words, and none of them is a written 0.
+pub fn check_table(table: &[u64]) -> Checked
+    ensures { λ r. ⌜ checkedSays r ≡ checkReply (now (table .entry)) ⌝ }
+{
+    check_lines(table, 0)
 }
 
 // The fault of a table that is turned away, for a question to hand on; no other check is asked about.

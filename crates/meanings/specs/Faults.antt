@@ -6,7 +6,7 @@ use lib.Dec.{leb, ltb, eqb}
 use lib.ListN.{length}
 use Rattle.sets.specs.Sets.{everyone, within}
 use Rattle.sets.specs.Lists.{keep, from}
-use Rattle.meanings.specs.Table.{records, control, threshold, level, members, nodes, entries}
+use Rattle.meanings.specs.Table.{records, control, threshold, level, members, nodes, entries, unknown}
 
 -- what checking comes to: nothing is wrong, or a number with its place; places count from 1
 pub data Check : Type 0 where
@@ -44,9 +44,9 @@ badLevel t (suc r) = ltb (suc (level t r)) (level t (suc r))
 unfoldable pub surplus : List ℕ → ℕ → Bool
 surplus t r = eqb (level t r) 0 && eqb (length (keep (λ j. eqb (level t j) 0) (from 0 r))) 64
 
--- 5: threshold 0
+-- 5: threshold 0, unless the record is an unknown archive: where its level is above 0, or it has members or inner sets
 unfoldable pub noThreshold : List ℕ → ℕ → Bool
-noThreshold t r = eqb (threshold t r) 0
+noThreshold t r = eqb (threshold t r) 0 && not (unknown t r)
 
 -- 6: a member that is no node
 unfoldable pub strangers : List ℕ → ℕ → Bool
@@ -63,13 +63,25 @@ shapeFault t r =
     (orElse (faultIf (badLevel t r) 3 (suc r))
     (orElse (faultIf (surplus t r) 4 (suc r)) (faultIf (noThreshold t r) 5 (suc r))))
 
+-- On a sheet the threshold of an unknown archive is `?`, and a written 0 gives 5 at its record too, in its place among 2 to 5. `nought` is the
+-- first line whose threshold is a written 0, and 0 where there is none.
+unfoldable pub lineFault : (nought : ℕ) → List ℕ → ℕ → Check
+lineFault nought t r = orElse (shapeFault t r) (faultIf (eqb (suc r) nought) 5 (suc r))
+
 unfoldable pub entryFault : List ℕ → ℕ → Check
 entryFault t r = orElse (faultIf (strangers t r) 6 (suc r)) (faultIf (tooHigh t r) 7 (suc r))
 
 -- Order: 1; then the first record that meets any of 2 to 5; then the first that meets 6 or 7.
-unfoldable pub check : List ℕ → Check
-check t =
+unfoldable pub checkBy : (ℕ → Check) → List ℕ → Check
+checkBy shape t =
     elim (badCount t) [
       | true ↦ fault 1 0
-      | false ↦ orElse (firstFault (shapeFault t) (from 0 (records t))) (firstFault (entryFault t) (from 0 (records t)))
+      | false ↦ orElse (firstFault shape (from 0 (records t))) (firstFault (entryFault t) (from 0 (records t)))
     ]
+
+-- the check of a table, and of the records that the lines of a sheet come to
+unfoldable pub check : List ℕ → Check
+check t = checkBy (shapeFault t) t
+
+unfoldable pub checkLines : (nought : ℕ) → List ℕ → Check
+checkLines nought t = checkBy (lineFault nought t) t

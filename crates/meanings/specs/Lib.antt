@@ -12,3 +12,4 @@ pub mod Points
 pub mod Further
 pub mod Readings
 pub mod Blocks
+pub mod Unknown

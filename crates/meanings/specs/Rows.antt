@@ -8,7 +8,7 @@ use lib.Count.{trailingZeros}
 use Rattle.sets.specs.Sets.{has, only, nobody, everyone, _∪_, _∖_, size, within, smaller, meets, setOf, each}
 use Rattle.sets.specs.Lists.{keep, all, some, from}
 use Rattle.sets.specs.Listing.{before, subsets, allSets, someSet, setsThat}
-use Rattle.meanings.specs.Table.{records, control, members, threshold, level, heads, nodes, headOf, innerOf, innerSets, entries, satisfies, satisfied}
+use Rattle.meanings.specs.Table.{records, control, members, threshold, level, heads, nodes, headOf, innerOf, innerSets, entries, unknown, suffice, satisfies, satisfied}
 use Rattle.meanings.specs.Faults as Faults
 use Rattle.meanings.specs.Quorums as Quorums
 use Rattle.meanings.specs.Quorums.{intersecting, disjointQuorums, minimalQuorums, minimalBlockingSets, intactNodes, overlapsSlices}
@@ -104,5 +104,5 @@ Every l = map asked l ≡ map said l
 
 -- All that a row computes with: a proof that says `unfolding computing` sees through each of these.
 unfoldable pub computing : Unit {0}
-unfolding has everyone _∖_ size within smaller meets setOf each keep all some from before subsets allSets someSet setsThat trailingZeros records control members threshold level heads nodes headOf innerOf innerSets entries satisfies satisfied Faults.firstFault Faults.badCount Faults.badControl Faults.badLevel Faults.surplus Faults.noThreshold Faults.strangers Faults.tooHigh Faults.shapeFault Faults.entryFault Faults.check Quorums.ground Quorums.quorum Quorums.greatest Quorums.holdsQuorum Quorums.intersecting Quorums.disjointQuorums Quorums.minimalQuorum Quorums.blockingSet Quorums.minimalBlocking Quorums.minimalQuorums Quorums.minimalBlockingSets Quorums.dset Quorums.intact Quorums.intactNodes Quorums.blocks Quorums.slice Quorums.overlapsSlices Rounds.round Rounds.lastRound Rounds.roundsFrom Rounds.leftFrom Rounds.rounds Rounds.survivors Trees.quorumTree Trees.overHalf Trees.pairAt Trees.verdictTree Trees.minimalTree Trees.blockingFrom Trees.blockingTree Trees.walk Trees.list Intact.nextU Intact.roundsFrom Intact.intactSearch table checkReply quorumReply greatestReply blocksReply verdictReply minimalReply blockingReply intactReply
+unfolding has everyone _∖_ size within smaller meets setOf each keep all some from before subsets allSets someSet setsThat trailingZeros records control members threshold level heads nodes headOf innerOf innerSets entries unknown suffice satisfies satisfied Faults.firstFault Faults.badCount Faults.badControl Faults.badLevel Faults.surplus Faults.noThreshold Faults.strangers Faults.tooHigh Faults.shapeFault Faults.lineFault Faults.entryFault Faults.checkBy Faults.check Faults.checkLines Quorums.ground Quorums.quorum Quorums.greatest Quorums.holdsQuorum Quorums.intersecting Quorums.disjointQuorums Quorums.minimalQuorum Quorums.blockingSet Quorums.minimalBlocking Quorums.minimalQuorums Quorums.minimalBlockingSets Quorums.dset Quorums.intact Quorums.intactNodes Quorums.blocks Quorums.slice Quorums.overlapsSlices Rounds.round Rounds.lastRound Rounds.roundsFrom Rounds.leftFrom Rounds.rounds Rounds.survivors Trees.quorumTree Trees.overHalf Trees.pairAt Trees.verdictTree Trees.minimalTree Trees.blockingFrom Trees.blockingTree Trees.walk Trees.list Intact.nextU Intact.roundsFrom Intact.intactSearch table checkReply quorumReply greatestReply blocksReply verdictReply minimalReply blockingReply intactReply
 computing = tt

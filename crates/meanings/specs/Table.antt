@@ -5,7 +5,7 @@ use mathlib.Core.List.{List}
 use Prim.Native.Nat.{ℕ, zero, suc, _+_, _-_, _*_, _/_, _%_}
 use lib.Dec.{leb, eqb}
 use lib.ListN.{length, getD}
-use Rattle.sets.specs.Sets.{size, _∩_}
+use Rattle.sets.specs.Sets.{size, _∩_, empty}
 use Rattle.sets.specs.Lists.{keep, some, from}
 
 -- Records are counted from 0 here. The whole lent list is the table.
@@ -48,12 +48,20 @@ innerSets t r = keep (innerOf t r) (from (suc r) (records t - suc r))
 unfoldable pub entries : List ℕ → ℕ → ℕ
 entries t r = size 64 (members t r) + length (innerSets t r)
 
+-- An archive whose sheet is unknown: a level 0 record with threshold 0, no members and no inner sets.
+unfoldable pub unknown : List ℕ → ℕ → Bool
+unknown t r = eqb (threshold t r) 0 && eqb (level t r) 0 && empty (members t r) && eqb (length (innerSets t r)) 0
+
+-- So many entries are enough for record r when they number at least the threshold. An unknown archive is never satisfied: none are enough.
+unfoldable pub suffice : List ℕ → ℕ → ℕ → Bool
+suffice t r k = not (unknown t r) && leb (threshold t r) k
+
 -- U satisfies a quorum set when the members in U, plus the direct inner sets that U satisfies, number at least the
 -- threshold. An inner set is judged the same way, down to the last level: `left` is how many levels lie below.
 unfoldable pub satisfies : ℕ → List ℕ → ℕ → ℕ → Bool
-satisfies zero t u r = leb (threshold t r) (size 64 (members t r ∩ u))
+satisfies zero t u r = suffice t r (size 64 (members t r ∩ u))
 satisfies (suc left) t u r =
-    leb (threshold t r) (size 64 (members t r ∩ u) + length (keep (λ j. satisfies left t u j) (innerSets t r)))
+    suffice t r (size 64 (members t r ∩ u) + length (keep (λ j. satisfies left t u j) (innerSets t r)))
 
 -- U satisfies the quorum set of node v: a level 0 record has three levels below it
 unfoldable pub satisfied : List ℕ → ℕ → ℕ → Bool

@@ -7,7 +7,7 @@ use mathlib.Core.List.{List}
 use Prim.Native.Nat.{ℕ, zero, suc, _+_, _-_, _<_, _≤_}
 use native.Mathlib.Numerals.{sub-one}
 use native.Mathlib.Omega.{arith}
-use borrow.Author.Tests.{eqb-true, eqb-false, leb-true, le-leb}
+use borrow.Author.Tests.{eqb-true, eqb-false}
 use lib.Dec.{eqb}
 use lib.ListN.{length, set}
 use lib.Seq.{getD-set-same, getD-set-other}
@@ -15,9 +15,10 @@ use Rattle.sets.specs.Sets.{size, _∪_, _∩_}
 use Rattle.sets.proofs.Bools.{either}
 use Rattle.sets.proofs.Members.{In, Sub, ∪-left, ∪-right, ∩-in, ∩-out}
 use Rattle.sets.proofs.Size.{le-or-lt, sub-size}
-use Rattle.meanings.specs.Table.{records, members, threshold, level, headOf, satisfies}
+use Rattle.meanings.specs.Table.{records, members, level, headOf, satisfies}
 use Rattle.meanings.specs.Faults.{check, sound}
 use Rattle.tables.proofs.Runs.{innerFrom, from-stop, from-hit, from-miss, from-deeper}
+use Rattle.satisfaction.proofs.Suffice.{suffice-more}
 use Rattle.satisfaction.proofs.Laws.{judged-last, judged-more}
 use Rattle.plans.specs.Alike.{setEnds}
 use Rattle.plans.proofs.SameSets.{from-last}
@@ -106,9 +107,7 @@ module _ (t : List ℕ) (m r e : ℕ) (W : Whole t m r e) where
     -- whoever satisfies a record of the set still does without those not named
     stays : (left j : ℕ) → r ≤ j → j < e → satisfies left t u j ≡ true → satisfies left t u' j ≡ true
     stays zero j h l p =
-        let a = met-more j h l in
-        let b = leb-true (threshold t j) (size 64 (members t j ∩ u)) (sym (judged-last t u j) ∙ p) in
-        judged-last t u' j ∙ le-leb (threshold t j) (size 64 (members t j ∩ u')) (omega arith)
+        judged-last t u' j ∙ suffice-more t j (size 64 (members t j ∩ u)) (size 64 (members t j ∩ u')) (met-more j h l) (sym (judged-last t u j) ∙ p)
     stays (suc left) j h l p = more (λ i. stays left i)
       where
         more : ((i : ℕ) → r ≤ i → i < e → satisfies left t u i ≡ true → satisfies left t u' i ≡ true) → satisfies (suc left) t u' j ≡ true
@@ -119,9 +118,11 @@ module _ (t : List ℕ) (m r e : ℕ) (W : Whole t m r e) where
             let g : ℕ → Bool = λ i. satisfies (suc left - 1) t u' i in
             let a = met-more j h l in
             let w = walk-more f g (level t j) (λ i h' l'. rw n (ih i h' l')) (e - (j + 1)) (j + 1) (omega arith) (omega arith) in
-            let b = leb-true (threshold t j) (size 64 (members t j ∩ u) + innerFrom f t (level t j) (j + 1)) (sym (judged-more (suc left) t u j sd (omega arith) (omega arith)) ∙ p) in
             judged-more (suc left) t u' j sd (omega arith) (omega arith)
-            ∙ le-leb (threshold t j) (size 64 (members t j ∩ u') + innerFrom g t (level t j) (j + 1)) (omega arith)
+            ∙ suffice-more t j (size 64 (members t j ∩ u) + innerFrom f t (level t j) (j + 1))
+            (size 64 (members t j ∩ u') + innerFrom g t (level t j) (j + 1))
+            (omega arith)
+            (sym (judged-more (suc left) t u j sd (omega arith) (omega arith)) ∙ p)
 
   pub whole-names : check t ≡ sound → Names t m r
   whole-names sd u u' kept = let b = W .begins in stays sd u u' kept 3 r (omega arith) b

@@ -13,9 +13,10 @@ use lib.Dec.{leb, eqb}
 use Rattle.sets.specs.Sets.{size, _∩_}
 use Rattle.sets.proofs.Bools.{either, and-parts, or-cases, or-fails}
 use Rattle.sets.proofs.Size.{le-or-lt}
-use Rattle.meanings.specs.Table.{records, control, members, threshold, level, satisfies}
+use Rattle.meanings.specs.Table.{records, control, members, threshold, level, suffice, satisfies}
 use Rattle.meanings.specs.Faults.{check, sound}
 use Rattle.tables.proofs.Runs.{innerFrom, from-end, from-stop, from-hit, from-miss, from-deeper}
+use Rattle.satisfaction.proofs.Suffice.{same-suffice}
 use Rattle.satisfaction.proofs.Laws.{judged-last, judged-more}
 use Rattle.plans.specs.Alike.{Alike, sameRecord, setEnds}
 
@@ -103,11 +104,21 @@ module _ (t : List ℕ) (a b m : ℕ) (s : SameRun t a b m) where
           (ap (innerFrom f t k) (sym c) ∙ ih ∙ ap (innerFrom f t k) c')
 
   module _ (sd : check t ≡ sound) (u : ℕ) where
+    -- what is enough for a record of one run is enough for the one at its place in the other
+    enough : (i : ℕ) → i < m → (k : ℕ) → suffice t (a + i) k ≡ suffice t (b + i) k
+    enough i l =
+        let w = s .fits in
+        let w' = s .fits' in
+        same-suffice t sd (a + i) (b + i) (omega arith) (omega arith) (same-threshold t (a + i) (b + i) (s .same i l))
+
     -- whoever satisfies a record of one run satisfies the one at its place in the other
     pub run-alike : (left i : ℕ) → i < m → satisfies left t u (a + i) ≡ satisfies left t u (b + i)
     run-alike zero i l =
         let r = s .same i l in
-        judged-last t u (a + i) ∙ ap₂ leb (same-threshold t (a + i) (b + i) r) (same-met t (a + i) (b + i) r u) ∙ sym (judged-last t u (b + i))
+        judged-last t u (a + i)
+        ∙ enough i l (size 64 (members t (a + i) ∩ u))
+        ∙ ap (suffice t (b + i)) (same-met t (a + i) (b + i) r u)
+        ∙ sym (judged-last t u (b + i))
     run-alike (suc left) i l = more (λ j h. run-alike left j h)
       where
         more : ((j : ℕ) → j < m → satisfies left t u (a + j) ≡ satisfies left t u (b + j)) → satisfies (suc left) t u (a + i) ≡ satisfies (suc left) t u (b + i)
@@ -124,7 +135,8 @@ module _ (t : List ℕ) (a b m : ℕ) (s : SameRun t a b m) where
             ∙ walks f (level t (b + i)) (λ j h. rw n (ih j h)) (m - suc i) (suc i) (omega arith)
             ∙ ap (innerFrom f t (level t (b + i))) c' in
             judged-more (suc left) t u (a + i) sd (omega arith) (omega arith)
-            ∙ ap₂ leb (same-threshold t (a + i) (b + i) r) (ap₂ _+_ (same-met t (a + i) (b + i) r u) inner)
+            ∙ enough i l (size 64 (members t (a + i) ∩ u) + innerFrom f t (level t (a + i)) (a + i + 1))
+            ∙ ap (suffice t (b + i)) (ap₂ _+_ (same-met t (a + i) (b + i) r u) inner)
             ∙ sym (judged-more (suc left) t u (b + i) sd (omega arith) (omega arith))
 
   pub same-alike : check t ≡ sound → 0 < m → Alike t a b

@@ -5,14 +5,14 @@ use mathlib.Core.List.{List, [], _∷_}
 use Prim.Native.Nat.{ℕ, zero, suc, _+_, _≤_}
 use native.Mathlib.Nat.{le-refl}
 use native.Mathlib.Omega.{arith}
-use borrow.Author.Tests.{leb-true, le-leb}
 use lib.ListN.{length}
 use Rattle.sets.specs.Sets.{size, _∩_}
 use Rattle.sets.specs.Lists.{consIf, keep}
 use Rattle.sets.proofs.Members.{Sub, ∩-in, ∩-out}
 use Rattle.sets.proofs.Size.{sub-size}
-use Rattle.meanings.specs.Table.{members, threshold, innerSets, headOf, satisfies, satisfied}
+use Rattle.meanings.specs.Table.{members, innerSets, headOf, satisfies, satisfied}
 use Rattle.theory.proofs.Quorum.{Monotone}
+use Rattle.satisfaction.proofs.Suffice.{suffice-more}
 
 -- a weaker test passes no fewer
 keep-more : (f g : ℕ → Bool) → ((x : ℕ) → f x ≡ true → g x ≡ true) → (l : List ℕ) → length (keep f l) ≤ length (keep g l)
@@ -33,14 +33,14 @@ members-more t r a b f =
 pub satisfies-more : (left : ℕ) (t : List ℕ) (a b r : ℕ) → Sub a b → satisfies left t a r ≡ true → satisfies left t b r ≡ true
 unfolding satisfies
 satisfies-more zero t a b r f e =
-    let m = members-more t r a b f in
-    let k = leb-true (threshold t r) (size 64 (members t r ∩ a)) e in
-    le-leb (threshold t r) (size 64 (members t r ∩ b)) (omega arith)
+    suffice-more t r (size 64 (members t r ∩ a)) (size 64 (members t r ∩ b)) (members-more t r a b f) e
 satisfies-more (suc left) t a b r f e =
     let m = members-more t r a b f in
     let i = keep-more (λ j. satisfies left t a j) (λ j. satisfies left t b j) (λ j. satisfies-more left t a b j f) (innerSets t r) in
-    let k = leb-true (threshold t r) (size 64 (members t r ∩ a) + length (keep (λ j. satisfies left t a j) (innerSets t r))) e in
-    le-leb (threshold t r) (size 64 (members t r ∩ b) + length (keep (λ j. satisfies left t b j) (innerSets t r))) (omega arith)
+    suffice-more t r (size 64 (members t r ∩ a) + length (keep (λ j. satisfies left t a j) (innerSets t r)))
+    (size 64 (members t r ∩ b) + length (keep (λ j. satisfies left t b j) (innerSets t r)))
+    (omega arith)
+    e
 
 pub satisfied-monotone : (t : List ℕ) → Monotone (satisfied t)
 unfolding satisfied

@@ -129,7 +129,8 @@ module _ (t : List ℕ) (u k j : ℕ) (e : check t ≡ sound) (l : j < records t
   still-here : (i : ℕ) → level t j ≡ suc i → still t u i j ≡ bump (leb (lack t u j) (still t u (suc i) (j + 1))) (still t u i (j + 1))
   still-here i q =
       let h : i < level t j = omega arith in
-      let s = judged-walk t e u j l ∙ ap (λ (x : ℕ). leb (lack t u j) (still t u x (j + 1))) q in
+      let p = sound-table t e .at j l .inner-pos (omega arith) in
+      let s = judged-walk t e u j l p ∙ ap (λ (x : ℕ). leb (lack t u j) (still t u x (j + 1))) q in
       ⊎-elim
       (λ (p : holds t u j ≡ true). from-hit (holds t u) t i j l h q p ∙ sym (ap (λ (b : Bool). bump b (still t u i (j + 1))) (sym s ∙ p)))
       (λ (p : holds t u j ≡ false). from-miss (holds t u) t i j l h p ∙ sym (ap (λ (b : Bool). bump b (still t u i (j + 1))) (sym s ∙ p)))

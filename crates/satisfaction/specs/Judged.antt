@@ -7,7 +7,7 @@ use Rattle.meanings.specs.Table.{records, members, threshold, satisfies}
 use Rattle.tables.specs.Run.{innerRun}
 
 -- u satisfies the quorum set of record r. No record has more than three levels below it, so that the three are no part of the meaning:
--- u satisfies it when the members in u, plus the direct inner sets that u satisfies, number at least the threshold (`Laws.judged`).
+-- u satisfies it when it is known and the members in u, plus the direct inner sets that u satisfies, number at least the threshold (`Laws.judged`).
 abbrev pub holds : List ℕ → ℕ → ℕ → Bool
 holds t u r = satisfies 3 t u r
 

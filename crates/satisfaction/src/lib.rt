@@ -5,7 +5,7 @@ ghost use mathlib.Core.Bool.{true, false};
 ghost use Prim.Native.Nat.{ℕ, suc, _+_, _-_, _<_};
 ghost use lib.Dec.{leb};
 ghost use Rattle.sets.specs.Sets.{size};
-ghost use Rattle.meanings.specs.Table.{records, level as levelOf};
+ghost use Rattle.meanings.specs.Table.{records, level as levelOf, threshold as thresholdOf};
 ghost use Rattle.meanings.specs.Faults.{check, sound};
 ghost use Rattle.tables.specs.Run.{bump};
 ghost use Rattle.satisfaction.specs.Judged.{holds, lack, still};
@@ -57,10 +57,10 @@ fn lacking(t: &[u64], u: u64, r: usize) -> u64
     short_of(tables::members(t, r) & u, tables::threshold(t, r))
 }
 
-// Whether record r has inner sets: without them none is ever counted.
+// Whether record r has inner sets: without them none is ever counted, and with them the archive is known.
 fn deeper(t: &[u64], r: usize) -> bool
     requires { ⌜ (check (now t) ≡ sound) × (r < records (now t)) ⌝ }
-    ensures { λ o. ⌜ ((u : ℕ) → o ≡ false → still (now (t .entry)) u (levelOf (now (t .entry)) r) (r + 1) ≡ 0) ⌝ }
+    ensures { λ o. ⌜ ((u : ℕ) → o ≡ false → still (now (t .entry)) u (levelOf (now (t .entry)) r) (r + 1) ≡ 0) × (o ≡ true → 0 < thresholdOf (now (t .entry)) r) ⌝ }
 {
     if r + 1 == t.len() / 2 {
         return false;
@@ -168,13 +168,14 @@ fn inner_enough(t: &[u64], u: u64, r: usize, wanted: u64) -> bool
     false
 }
 
-// Whether u satisfies the quorum set of record r.
+// Whether u satisfies the quorum set of record r. Where nothing is wanting and some member is in u, it does. Where nothing is wanting and none is,
+// the archive is unknown: it has no inner sets, so that nothing more is asked of it.
 pub fn satisfies(t: &[u64], u: u64, r: usize) -> bool
     requires { ⌜ (check (now t) ≡ sound) × (r < records (now t)) ⌝ }
     ensures { λ o. ⌜ o ≡ holds (now (t .entry)) u r ⌝ }
 {
     let wanted = lacking(t, u, r);
-    if wanted == 0 {
+    if wanted == 0 && tables::members(t, r) & u != 0 {
         return true;
     }
     if !deeper(t, r) {

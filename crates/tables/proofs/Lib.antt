@@ -3,3 +3,4 @@ pub mod Heads
 pub mod Runs
 pub mod Sound
 pub mod Bounds
+pub mod Unknown

@@ -1,6 +1,6 @@
 -- The inner sets of a record stand in the run of deeper records right after it. Up to the first record at its level or above no
 -- record between is at its level, so each record one level deeper is an inner set of it; and from there on, levels rising one at
--- a time, none is, since its own level must be passed first.
+-- a time, none is, since its own level must be passed first. Where the record is at level 0 levels need not be in step: none is above it.
 use mathlib.Core.Path.{_≡_, refl, sym, ap, ap₂, _∙_, subst}
 use mathlib.Core.Bool.{Bool, true, false, not, _&&_, _||_, and-true}
 use mathlib.Core.Logic.{_⊎_, inl, inr, ⊎-elim}
@@ -101,18 +101,25 @@ module _ (t : List ℕ) (r : ℕ) where
   inner-shut j (inl h) = and-left-fails (eqb (level t j) (suc (level t r))) (not (between j)) (ne-eqb (level t j) (suc (level t r)) (λ e. omega arith))
   inner-shut j (inr e) = and-right-fails (eqb (level t j) (suc (level t r))) (not (between j)) (ap not e)
 
-  module _ (steps : (j : ℕ) → j < records t → badLevel t j ≡ false) where
-    rise : (j : ℕ) → suc j < records t → level t (suc j) ≤ suc (level t j)
-    unfolding badLevel
-    rise j l = ltb-false (suc (level t j)) (level t (suc j)) (steps (suc j) l)
+  -- whatever leads from r's level or above to a deeper record is at r's level
+  abbrev Passed : Type 0
+  Passed = (j : ℕ) → suc j < records t → level t j ≤ level t r → level t r < level t (suc j) → level t j ≡ level t r
 
+  in-step-passed : ((j : ℕ) → j < records t → badLevel t j ≡ false) → Passed
+  unfolding badLevel
+  in-step-passed steps j l p q = let s = ltb-false (suc (level t j)) (level t (suc j)) (steps (suc j) l) in omega arith
+
+  head-passed : level t r ≡ 0 → Passed
+  head-passed e j l p q = omega arith
+
+  module _ (passed : Passed) where
     -- past a record at r's level or above, each is so too, or has one at r's level between
     shut-step : (j : ℕ) → r < j → suc j < records t → (level t j ≤ level t r) ⊎ (between j ≡ true) → (level t (suc j) ≤ level t r) ⊎ (between (suc j) ≡ true)
     shut-step j h l (inr e) = inr (between-step j h ∙ or-left (between j) (eqb (level t j) (level t r)) e)
     shut-step j h l (inl p) =
         ⊎-elim (λ q. inl q)
         (λ (q : level t r < level t (suc j)).
-        inr (between-step j h ∙ or-right (between j) (eqb (level t j) (level t r)) (eq-eqb (level t j) (level t r) (let s = rise j l in omega arith))))
+        inr (between-step j h ∙ or-right (between j) (eqb (level t j) (level t r)) (eq-eqb (level t j) (level t r) (passed j l p q))))
         (le-or-lt (level t (suc j)) (level t r))
 
     shut : (j : ℕ) → r < j → level t j ≤ level t r → (n : ℕ) → j + n < records t → (level t (j + n) ≤ level t r) ⊎ (between (j + n) ≡ true)
@@ -165,12 +172,15 @@ module _ (t : List ℕ) (r : ℕ) where
           go c (inr p) = counts-more j n p e (c p)
 
       -- of the inner sets of record r, as many pass a test as a walk over its run counts
-      pub inner-run : r < records t → length (keep f (innerSets t r)) ≡ innerRun f t (level t r) (records t - suc r) (suc r)
+      inner-run : r < records t → length (keep f (innerSets t r)) ≡ innerRun f t (level t r) (records t - suc r) (suc r)
       unfolding innerSets
       inner-run l = counts (records t - suc r) (suc r) (omega arith) (omega arith) between-none
 
-      pub inner-from : r < records t → length (keep f (innerSets t r)) ≡ innerFrom f t (level t r) (r + 1)
-      inner-from l = inner-run l ∙ ap (λ (j : ℕ). innerFrom f t (level t r) j) (sym (add-one r))
+      run-from : r < records t → length (keep f (innerSets t r)) ≡ innerFrom f t (level t r) (r + 1)
+      run-from l = inner-run l ∙ ap (λ (j : ℕ). innerFrom f t (level t r) j) (sym (add-one r))
+
+  pub inner-from : ((j : ℕ) → j < records t → badLevel t j ≡ false) → (f : ℕ → Bool) → r < records t → length (keep f (innerSets t r)) ≡ innerFrom f t (level t r) (r + 1)
+  inner-from steps f l = run-from (in-step-passed steps) f l
 
 -- without a test, how many inner sets there are
 keep-every : (l : List ℕ) → keep (λ j. true) l ≡ l
@@ -178,5 +188,13 @@ unfolding keep
 keep-every [] = refl
 keep-every (x ∷ l) = ap (λ (m : List ℕ). x ∷ m) (keep-every l)
 
-pub inner-count : (t : List ℕ) (r : ℕ) → ((j : ℕ) → j < records t → badLevel t j ≡ false) → r < records t → length (innerSets t r) ≡ innerFrom (λ j. true) t (level t r) (r + 1)
-inner-count t r steps l = ap length (sym (keep-every (innerSets t r))) ∙ inner-from t r steps (λ j. true) l
+module _ (t : List ℕ) (r : ℕ) where
+  all-inner : Passed t r → r < records t → length (innerSets t r) ≡ innerFrom (λ j. true) t (level t r) (r + 1)
+  all-inner passed l = ap length (sym (keep-every (innerSets t r))) ∙ run-from t r passed (λ j. true) l
+
+  pub inner-count : ((j : ℕ) → j < records t → badLevel t j ≡ false) → r < records t → length (innerSets t r) ≡ innerFrom (λ j. true) t (level t r) (r + 1)
+  inner-count steps l = all-inner (in-step-passed t r steps) l
+
+  -- those of a record at level 0, whatever the levels of the others
+  pub head-inner : level t r ≡ 0 → r < records t → length (innerSets t r) ≡ innerFrom (λ j. true) t (level t r) (r + 1)
+  head-inner e l = all-inner (head-passed t r e) l

@@ -13,13 +13,13 @@ use lib.Dec.{eqb}
 use lib.Pow.{pow-mono}
 use Rattle.sets.specs.Sets.{has, nobody, everyone, _∪_, _∩_, _∖_, empty, within, meets, size, setOf}
 use Rattle.sets.proofs.Bools.{either, clash, and-parts, and-both, or-cases, or-left, or-right, not-holds, fails}
-use Rattle.sets.proofs.Members.{In, Sub, has-below, ∪-right, ∪-cases, ∪-lt, ∩-in, ∩-out, ∩-lt, ∖-in, ∖-out, ∖-lt, none-in, everyone-lt, within-sub, sub-within, sub-antisym, setOf-in, setOf-out, setOf-lt}
+use Rattle.sets.proofs.Members.{In, Sub, has-below, ∪-right, ∪-cases, ∪-lt, ∩-in, ∩-out, ∩-lt, ∖-in, ∖-out, ∖-lt, none-in, within-sub, sub-within, sub-antisym, setOf-in, setOf-out, setOf-lt}
 use Rattle.sets.proofs.Size.{size-lt, size-le, sub-size}
 use Rattle.sets.proofs.Listing.{someSet-at, at-someSet}
 use Rattle.meanings.specs.Quorums.{ground, quorum, greatest, intersecting, dset, intact, intactNodes}
 use Rattle.meanings.specs.Trees.{Pair, Walk, hit, missed}
 use Rattle.meanings.specs.Intact.{intactAre, divided, endedLater, verdict, nextU, onRound, roundsFrom, onPlain, intactSearch}
-use Rattle.theory.proofs.Quorum.{others as outside, others-lt, others-in, others-out, others-nobody, Monotone, Quorum, quorum-is, is-quorum, a-node, delete-quorum, intersecting-is}
+use Rattle.theory.proofs.Quorum.{others as outside, others-lt, others-in, others-out, others-nobody, others-everyone, Monotone, Quorum, quorum-is, is-quorum, a-node, delete-quorum, intersecting-is}
 use Rattle.theory.proofs.Greatest.{greatest-lt, greatest-sub, greatest-has, greatest-quorum}
 use Rattle.theory.proofs.Verdict.{Sound, Decided, all-meet, two-apart, decided, meets-not, apart-none}
 
@@ -92,13 +92,8 @@ module _ (n : ℕ) (s : ℕ → ℕ → Bool) where
       (⊎-elim
       (λ x. or-left (quorum n s nobody (others (others q))) (eqb (others q) (everyone n))
       (is-quorum n s nobody (others (others q)) (subst (Quorum n s nobody) (sym (others-others q h)) x)))
-      (λ x. or-right (quorum n s nobody (others (others q))) (eqb (others q) (everyone n)) (eq-eqb (others q) (everyone n) (all-left x)))
+      (λ x. or-right (quorum n s nobody (others (others q))) (eqb (others q) (everyone n)) (eq-eqb (others q) (everyone n) (others-everyone n q x)))
       c)
-    where
-      all-left : q ≡ nobody → others q ≡ everyone n
-      all-left z =
-          sub-antisym n (others q) (everyone n) (others-lt n q) (everyone-lt n) (λ i p. ∖-out (everyone n) q i p .0)
-          (λ i p. ∖-in (everyone n) q i p (fails (has q i) (λ x. none-in q i z x)))
 
   pub intact-is : (b v : ℕ) → b < 2 ^ n → intact n s b v ≡ true → (d : ℕ) × DSet d × Sub b d × (has d v ≡ false)
   unfolding intact

@@ -9,3 +9,4 @@ pub mod Minimal
 pub mod Blocking
 pub mod Intact
 pub mod Blocks
+pub mod NoQuorum

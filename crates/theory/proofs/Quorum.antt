@@ -22,6 +22,10 @@ Monotone s = (a b v : ℕ) → Sub a b → s a v ≡ true → s b v ≡ true
 pub ∪-grows : (a b d : ℕ) → Sub a b → Sub (a ∪ d) (b ∪ d)
 ∪-grows a b d f i p = ⊎-elim (λ q. ∪-left b d i (f i q)) (λ q. ∪-right b d i q) (∪-cases a d i p)
 
+-- a set of n nodes that none of them is in is empty
+pub nobody-in : (n m : ℕ) → m < 2 ^ n → ((i : ℕ) → In m i → ⊥) → m ≡ nobody
+nobody-in n m h f = sub-antisym n m nobody h (pow-pos n) (λ i p. absurd (f i p)) (λ i p. none-in nobody i refl p)
+
 module _ (n : ℕ) where
   -- ---- the nodes outside a set
   abbrev pub others : ℕ → ℕ
@@ -39,14 +43,20 @@ module _ (n : ℕ) where
   -- there are none exactly where the set is everything
   pub others-nobody : (d : ℕ) → d ≡ everyone n → others d ≡ nobody
   others-nobody d e =
-      sub-antisym n (others d) nobody (others-lt d) (pow-pos n)
-      (λ i p. let q = others-out d i p in clash (has d i) (subst (λ (m : ℕ). In m i) (sym e) (has-everyone n i (q .0))) (q .1))
-      (λ i p. none-in nobody i refl p)
+      nobody-in n (others d) (others-lt d) (λ i p.
+      let q = others-out d i p in
+      clash (has d i) (subst (λ (m : ℕ). In m i) (sym e) (has-everyone n i (q .0))) (q .1))
 
   pub nobody-others : (d : ℕ) → d < 2 ^ n → others d ≡ nobody → d ≡ everyone n
   nobody-others d h e =
       sub-antisym n d (everyone n) h (everyone-lt n) (everyone-all n d h)
       (λ i p. holds (has d i) (λ x. none-in (others d) i e (∖-in (everyone n) d i p x)))
+
+  -- and all are outside nobody
+  pub others-everyone : (d : ℕ) → d ≡ nobody → others d ≡ everyone n
+  others-everyone d z =
+      sub-antisym n (others d) (everyone n) (others-lt d) (everyone-lt n) (λ i p. ∖-out (everyone n) d i p .0)
+      (λ i p. ∖-in (everyone n) d i p (fails (has d i) (λ x. none-in d i z x)))
 
   -- the ground is the nodes outside those counted out
   pub ground-lt : (d : ℕ) → ground n d < 2 ^ n

@@ -12,7 +12,7 @@ use Rattle.meanings.specs.Questions.{onCheck}
 use Rattle.tables.specs.Heads.{headsBefore}
 use Rattle.tables.proofs.Heads.{head-step, inner-step, before-le}
 use Rattle.faults.specs.Walk.{counted}
-use Rattle.faults.proofs.Laws.{meets-2, meets-3, meets-4, meets-5, shapely, high-control, fit-control, high-level, fit-level, one-too-many, no-head, room-left, zero-threshold, some-threshold}
+use Rattle.faults.proofs.Laws.{meets-2, meets-3, meets-4, meets-5, shapely, high-control, fit-control, high-level, fit-level, one-too-many, no-head, room-left}
 use Rattle.faults.proofs.shape.Statement.{statement}
 use Rattle.faults.proofs.shape.Tie as tie
 
@@ -28,8 +28,8 @@ level-requires c κs = search needs
 highest-requires : tie.Need-highest-requires
 highest-requires c κs = search needs
 
-threshold-requires : tie.Need-threshold-requires
-threshold-requires c κs = search needs
+no-threshold-requires : tie.Need-no-threshold-requires
+no-threshold-requires c κs = search needs
 
 -- ---- what has failed, place by place
 control-fits : (c : tie.Else1) → let s = c .before .before .before in badControl (s .args .t .now) (s .args .r) ≡ false
@@ -61,7 +61,7 @@ threshold-fits c =
     let r = s .args .r in
     let j = c .before .before in
     shapely t r (control-fits (j .before .before .before .before)) (level-fits (j .before)) (nodes-fit j)
-    (some-threshold t r (λ e. c .if5 .left (c .before .threshold .ensures .0 ∙ e)))
+    (sym (c .before .no-threshold .ensures) ∙ c .if5 .left)
 
 -- ---- the returns
 returns : tie.Need-returns
@@ -98,10 +98,10 @@ returns-4 c =
     let j = c .before .before in
     sym (ap (λ (x : Check). onCheck x (counted (headsBefore t (r + 1)) (r + 1)))
     (meets-5 t r (control-fits (j .before .before .before .before)) (level-fits (j .before)) (nodes-fit j)
-    (zero-threshold t r (sym (c .before .threshold .ensures .0) ∙ c .if5 .taken))))
+    (sym (c .before .no-threshold .ensures) ∙ c .if5 .taken)))
 
-add-t14 : tie.Need-add-t14
-add-t14 c =
+add-t15 : tie.Need-add-t15
+add-t15 c =
     let s = c .before .before .before .before .before .before .before .before .before .before in
     omega (arith, before-le (s .args .t .now) (s .args .r), s .pre .0, s .pre .1)
 
@@ -137,8 +137,8 @@ shape-spec =
     highest-requires
     returns-2
     returns-3
-    threshold-requires
+    no-threshold-requires
     returns-4
-    add-t14
+    add-t15
     returns-5
     returns-6)

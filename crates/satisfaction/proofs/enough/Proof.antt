@@ -1,7 +1,7 @@
 -- Members that are enough leave nothing wanting.
 use native.Mathlib.Omega.{arith}
 use mathlib.Core.Path.{_≡_, ap, _∙_}
-use Prim.Native.Nat.{ℕ, _+_, _≤_}
+use Prim.Native.Nat.{ℕ, _+_, _<_, _≤_}
 use borrow.Author.Tests.{le-leb, leb-true, ltb-true}
 use Rattle.sets.specs.Sets.{size, _∩_}
 use Rattle.meanings.specs.Table.{members, threshold, level}
@@ -33,7 +33,8 @@ returns c =
     let count : c .count .result ≡ size 64 (members t r ∩ u) = c .count .ensures .0 ∙ ap (λ (m : ℕ). size 64 (m ∩ u)) (M .members .ensures .0) in
     let all : T .threshold .result ≤ c .count .result = leb-true (T .threshold .result) (c .count .result) e in
     let none : lack t u r ≡ 0 = omega (arith, T .threshold .ensures .0) in
-    judged-walk t (s .pre .0) u r (s .pre .1) ∙ le-leb (lack t u r) (still t u (level t r) (r + 1)) (omega arith)
+    let some : 0 < threshold t r = omega (arith, T .threshold .ensures .0, M .before .if1 .taken) in
+    judged-walk t (s .pre .0) u r (s .pre .1) some ∙ le-leb (lack t u r) (still t u (level t r) (r + 1)) (omega arith)
 
 returns-2 : tie.Need-returns-2
 returns-2 c =
