@@ -36,18 +36,19 @@ unfoldable pub Widens : (len : ℕ) (before after : List ℕ) → Window → Typ
 Widens len b a (Wx.Bytes n ended) = (len ≤ n) × (n ≤ 512) × (length a ≡ 512) × (take len a ≡ take len b) × (ended ≡ false → 188 ≤ n)
 Widens len b a Wx.Failed = Unit {0}
 
--- the records of the lines before a window stand at the front of o, and the lines from the window on are still to be taken, whatever follows it
-pub record UpTo (o window : List ℕ) (r : ℕ) : Type 0 where
+-- The records of the lines before a window stand at the front of o, and the lines from the window on are still to be taken, whatever follows it. The
+-- first of those before whose threshold is a written 0 is `nought`.
+pub record UpTo (o window : List ℕ) (r nought : ℕ) : Type 0 where
   pub past : List ℕ
-  pub lines : (rest : List ℕ) → sheetLines (past ++ (window ++ rest)) ≡ before (take (2 * r) o) (takeLines (256 - r) (r + 1) (window ++ rest))
+  pub lines : (rest : List ℕ) → sheetLines (past ++ (window ++ rest)) ≡ before (take (2 * r) o) nought (takeLines (256 - r) (r + 1) (window ++ rest))
 
 -- The lines of a sheet are taken: so they are whatever follows it, and nothing does where the input is said to have ended.
-pub record Lines (o : List ℕ) (r : Read) (ended : Bool) : Type 0 where
+pub record Lines (o : List ℕ) (r : Read) (nought : ℕ) (ended : Bool) : Type 0 where
   pub sheet : List ℕ
-  pub takes : (rest : List ℕ) → (ended ≡ true → rest ≡ []) → Takes (sheetLines (sheet ++ rest)) o r
+  pub takes : (rest : List ℕ) → (ended ≡ true → rest ≡ []) → Takes (sheetLines (sheet ++ rest)) o r nought
 
 unfoldable pub Hears : (after : List ℕ) → Heard → Type 0
-Hears a (Hx.Told r ended bytes) = Lines a r ended
+Hears a (Hx.Told r nought ended bytes) = Lines a r nought ended
 Hears a Hx.Failed = Unit {0}
 
 -- The answer to reading some sheet, whose words stand at the front where it is good.

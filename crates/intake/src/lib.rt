@@ -17,9 +17,10 @@ enum Window {
     Failed,
 }
 
-// What the lines came to, whether the input had ended by then, and how many bytes were read; or that a read failed.
+// What the lines came to, the first whose threshold is a written 0, whether the input had ended by then, and how many bytes were read; or that a
+// read failed.
 enum Heard {
-    Told(Read, bool, usize),
+    Told(Read, u64, bool, usize),
     Failed,
 }
 
@@ -78,29 +79,30 @@ fn hear(words: &mut [u64]) -> Heard
     let mut end = false;
     let mut bytes = 0;
     let mut r = 0;
+    let mut nought = 0;
     loop {
         let Window::Bytes { count, ended } = widen(&mut buf, len, end) else {
             return Heard::Failed;
         };
         bytes += count - len;
         if count == 0 {
-            let all = 2 * r as u64;
-            return Heard::Told(Read::Words { count: all }, ended, bytes);
+            return Heard::Told(Read::Words { count: 2 * r }, nought, ended, bytes);
         }
         if r == 256 {
-            return Heard::Told(Read::Bad(Fault::Count(257)), ended, bytes);
+            return Heard::Told(Read::Bad(Fault::Count(257)), nought, ended, bytes);
         }
         let Line::Good {
             level,
             threshold,
+            nought: here,
             members,
             used,
         } = lines::line_at(&buf[..count], 0)
         else {
-            return Heard::Told(Read::Malformed { line: r as u64 + 1 }, ended, bytes);
+            return Heard::Told(Read::Malformed { line: r + 1 }, nought, ended, bytes);
         };
-        words[2 * r] = threshold + 256 * level;
-        words[2 * r + 1] = members;
+        sheets::put_record(words, r, level, threshold, members);
+        nought = sheets::first_nought(nought, here, r + 1);
         shift(&mut buf, used, count);
         len = count - used;
         end = ended;
@@ -154,7 +156,7 @@ pub fn take(table: &mut [u64]) -> Taken
     requires { ⌜ length (now table) ≡ 512 ⌝ }
     ensures { λ o. ⌜ TakesIn (now (table .exit)) o ⌝ }
 {
-    let Heard::Told(read, ended, bytes) = hear(table) else {
+    let Heard::Told(read, nought, ended, bytes) = hear(table) else {
         return Taken::Failed;
     };
     if !rest(ended, bytes) {
@@ -164,7 +166,7 @@ pub fn take(table: &mut [u64]) -> Taken
         return Taken::Sheet(read);
     };
     let k = count as usize;
-    let checked = faults::check_table(&table[..k]);
+    let checked = faults::check_lines(&table[..k], nought);
     let Checked::Sound {
         nodes: _,
         records: _,

@@ -3,15 +3,22 @@ ghost use mathlib.Core.Path.{_≡_};
 ghost use Prim.Native.Nat.{_≤_};
 ghost use lib.ListN.{length, drop};
 ghost use Rattle.decimal.specs.Bytes.{Written};
-ghost use Rattle.lines.specs.Lines.{fieldText, lastText, lineText, readField, readLast, readLine};
+ghost use Rattle.lines.specs.Lines.{fieldText, thresholdText, lastText, lineText, readField, readThreshold, readLast, readLine};
 use decimal::Number;
 use members::Members;
 
-// A record and how many bytes its line took.
+// A threshold, whether it is a written 0, and how many bytes it took with the tab behind it.
+pub enum Threshold {
+    Got(u64, bool, usize),
+    Bad,
+}
+
+// A record, whether its threshold is a written 0, and how many bytes its line took.
 pub enum Line {
     Good {
         level: u64,
         threshold: u64,
+        nought: bool,
         members: u64,
         used: usize,
     },
@@ -29,6 +36,22 @@ pub fn read_field(s: &[u8]) -> Number
         return Number::Got(v, k + 1);
     }
     Number::Bad
+}
+
+// The threshold at the start of s, which a tab must follow: a number, or at level 0 the `?` of an unknown archive.
+pub fn read_threshold(s: &[u8], level: u64) -> Threshold
+    ensures { λ r. ⌜ r ≡ readThreshold level (now (s .entry)) ⌝ }
+{
+    if decimal::byte_at(s, 0) == 63 {
+        if level == 0 && decimal::byte_at(s, 1) == 9 {
+            return Threshold::Got(0, false, 2);
+        }
+        return Threshold::Bad;
+    }
+    let Number::Got(v, k) = read_field(s) else {
+        return Threshold::Bad;
+    };
+    Threshold::Got(v, v == 0, k)
 }
 
 // The member list at the start of s, which the line's end must follow.
@@ -54,7 +77,7 @@ pub fn read_line(s: &[u8]) -> Line
     if 3 < level {
         return Line::Bad;
     }
-    let Number::Got(threshold, b) = read_field(&s[a..]) else {
+    let Threshold::Got(threshold, nought, b) = read_threshold(&s[a..], level) else {
         return Line::Bad;
     };
     let at = a + b;
@@ -64,6 +87,7 @@ pub fn read_line(s: &[u8]) -> Line
     Line::Good {
         level,
         threshold,
+        nought,
         members,
         used: at + k,
     }
@@ -94,6 +118,19 @@ pub fn put_field(out: &mut [u8], n: u64) -> usize
     k + 1
 }
 
+// Writes a threshold and a tab at the front of out, `?` for that of an unknown archive, and answers how many bytes that took.
+pub fn put_threshold(out: &mut [u8], threshold: u64) -> usize
+    requires { ⌜ length (thresholdText threshold) ≤ length (now out) ⌝ }
+    ensures { λ r. ⌜ Written (thresholdText threshold) (now (out .entry)) (now (out .exit)) r ⌝ }
+{
+    if threshold == 0 {
+        out[0] = 63;
+        out[1] = 9;
+        return 2;
+    }
+    put_field(out, threshold)
+}
+
 // Writes the list of m and the line's end at the front of out, and answers how many bytes that took.
 pub fn put_last(out: &mut [u8], m: u64) -> usize
     requires { ⌜ length (lastText m) ≤ length (now out) ⌝ }
@@ -110,6 +147,6 @@ pub fn put_line(out: &mut [u8], level: u64, threshold: u64, members: u64) -> usi
     ensures { λ r. ⌜ Written (lineText level threshold members) (now (out .entry)) (now (out .exit)) r ⌝ }
 {
     let a = put_field(out, level);
-    let b = a + put_field(&mut out[a..], threshold);
+    let b = a + put_threshold(&mut out[a..], threshold);
     b + put_last(&mut out[b..], members)
 }

@@ -4,7 +4,7 @@ use mathlib.Core.Path.{_≡_, refl}
 use mathlib.Core.List.{List, [], _∷_}
 use Rattle.decimal.specs.Decimal.{digits, numeral, digitOf, digitAt, numberOf, readNumber}
 use Rattle.members.specs.Members.{nodesFrom, withCommas, memberText, readId, join, readIds, readMembers}
-use Rattle.lines.specs.Lines.{readField, readLast, readLine}
+use Rattle.lines.specs.Lines.{readField, readThreshold, readLast, readLine}
 use Rattle.meanings.specs.Replies.{reply, _is_, Visits, Count}
 use Rattle.meanings.specs.Rows.{computing}
 use Rattle.sheets.specs.Sheets.{takeLines, sheetLines, readReply, readPuts}
@@ -56,11 +56,24 @@ pairsReport =
     ∷ 98 ∷ 9 ∷ 48 ∷ 44 ∷ 51 ∷ 10
     ∷ 98 ∷ 9 ∷ 48 ∷ 44 ∷ 50 ∷ 10 ∷ []
 
+-- where there is no quorum the empty set alone blocks, and prints as -
+abbrev pub unknownReport : List ℕ
+unknownReport =
+    110 ∷ 111 ∷ 100 ∷ 101 ∷ 115 ∷ 9 ∷ 49 ∷ 9 ∷ 115 ∷ 101 ∷ 116 ∷ 115 ∷ 9 ∷ 49 ∷ 10
+    ∷ 118 ∷ 101 ∷ 114 ∷ 100 ∷ 105 ∷ 99 ∷ 116 ∷ 9 ∷ 48 ∷ 9 ∷ 121 ∷ 101 ∷ 115 ∷ 9 ∷ 49 ∷ 9 ∷ 45 ∷ 9 ∷ 45 ∷ 10
+    ∷ 109 ∷ 105 ∷ 110 ∷ 105 ∷ 109 ∷ 97 ∷ 108 ∷ 9 ∷ 48 ∷ 9 ∷ 48 ∷ 9 ∷ 49 ∷ 10
+    ∷ 98 ∷ 108 ∷ 111 ∷ 99 ∷ 107 ∷ 105 ∷ 110 ∷ 103 ∷ 9 ∷ 48 ∷ 9 ∷ 49 ∷ 9 ∷ 49 ∷ 10
+    ∷ 98 ∷ 9 ∷ 45 ∷ 10 ∷ []
+
 pub record Reports : Type 0 where
   pub trio : reportOf trioSheet ≡ trioReport
   pub pairs : reportOf pairsSheet ≡ pairsReport
   -- refused 1 0: an empty sheet
   pub empty : reportOf [] ≡ 114 ∷ 101 ∷ 102 ∷ 117 ∷ 115 ∷ 101 ∷ 100 ∷ 9 ∷ 49 ∷ 9 ∷ 48 ∷ 10 ∷ []
+  -- 0 ? -, one archive, whose sheet is unknown: nodes 1 sets 1, verdict 0 yes 1 - -, minimal 0 0 1, blocking 0 1 1, b -
+  pub unknown : reportOf (48 ∷ 9 ∷ 63 ∷ 9 ∷ 45 ∷ 10 ∷ []) ≡ unknownReport
+  -- 0 0 -, the threshold a written 0: refused 5 1
+  pub written : reportOf (48 ∷ 9 ∷ 48 ∷ 9 ∷ 45 ∷ 10 ∷ []) ≡ 114 ∷ 101 ∷ 102 ∷ 117 ∷ 115 ∷ 101 ∷ 100 ∷ 9 ∷ 53 ∷ 9 ∷ 49 ∷ 10 ∷ []
   -- refused 12 1: no line's end
   pub malformed : reportOf (48 ∷ []) ≡ 114 ∷ 101 ∷ 102 ∷ 117 ∷ 115 ∷ 101 ∷ 100 ∷ 9 ∷ 49 ∷ 50 ∷ 9 ∷ 49 ∷ 10 ∷ []
   -- verdict 9 - 1000000 - -: the allowance ends first
@@ -75,12 +88,14 @@ pub record Reports : Type 0 where
   pub blocking-none : setLine word.b 0 ≡ 98 ∷ 9 ∷ 45 ∷ 10 ∷ []
 
 pub reports : Reports
-unfolding computing reportOf reportOn headPart minimalPart blockingPart readReply readPuts sheetLines takeLines readLine readField readLast readNumber numberOf digitAt digitOf readMembers readIds readId join row refusedLine nodesLine answerText verdictLine listLine setLine setLines listPart memberText withCommas nodesFrom numeral digits
+unfolding computing reportOf reportOn headPart minimalPart blockingPart readReply readPuts sheetLines takeLines readLine readThreshold readField readLast readNumber numberOf digitAt digitOf readMembers readIds readId join row refusedLine nodesLine answerText verdictLine listLine setLine setLines listPart memberText withCommas nodesFrom numeral digits
 reports =
     record {
       trio = refl;
       pairs = refl;
       empty = refl;
+      unknown = refl;
+      written = refl;
       malformed = refl;
       verdict-spent = refl;
       verdict-unsplit = refl;

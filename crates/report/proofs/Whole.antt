@@ -5,7 +5,7 @@ use mathlib.Core.Bool.{false}
 use mathlib.Core.List.{List, [], _∷_}
 use mathlib.Core.Logic.{_⊎_, inl, inr}
 use native.Mathlib.Omega.{arith}
-use borrow.Author.Tests.{eq-eqb, le-ltb}
+use borrow.Author.Tests.{eq-eqb}
 use lib.Dec.{eqb}
 use lib.ListN.{length, take, drop}
 use lib.Seq.{take-at}
@@ -18,6 +18,7 @@ use Rattle.answers.proofs.Exact.{wrote-exact}
 use Rattle.sheets.specs.Sheets.{readReply, readPuts}
 use Rattle.sheets.specs.Promises.{ReadPromise}
 use Rattle.sheets.proofs.Numbers.{answered}
+use Rattle.sheets.proofs.Trips.{answer-is}
 use Rattle.sheets.proofs.Bounds.{first-bytes}
 use Rattle.report_lines.specs.Lines.{refusedLine}
 use Rattle.report.specs.Report.{mostWords, reportOn, reportOf, ReportPromise}
@@ -36,11 +37,7 @@ module _ (s before after : List ℕ) (r : Read) (p : ReadPromise s before after 
     number = ap (λ (x : Reply). x .number) counting
 
     counted : length (readPuts s) ≡ count
-    unfolding readReply
-    counted =
-        let a = answered s mostWords number in
-        let h = a .room-enough in
-        rw (a .lines, a .records-sound, le-ltb mostWords (length (readPuts s)) h) at (ap (λ (x : Reply). value x Count) counting)
+    counted = ap (λ (x : Reply). value x Count) (sym (answer-is s mostWords (answered s mostWords number)) ∙ counting)
 
     pub words-within : count ≤ mostWords
     words-within = subst (λ (x : ℕ). x ≤ mostWords) counted (answered s mostWords number .room-enough)

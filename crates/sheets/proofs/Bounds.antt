@@ -3,15 +3,16 @@
 use Prim.Native.Nat.{ℕ, zero, suc, _+_, _-_, _*_, _≤_, _<_}
 use native.Mathlib.Omega.{arith}
 use mathlib.Core.Path.{_≡_, refl, ap, sym, _∙_}
+use mathlib.Core.Bool.{Bool, cond}
 use mathlib.Core.Logic.{⊎-elim}
 use mathlib.Core.List.{List, [], _∷_, _++_, append-assoc}
 use lib.ListN.{length, take, drop, length-take, length-drop, take-append-drop}
 use lib.Seq.{take-add, drop-at, length-take-le}
 use Rattle.decimal.proofs.Order.{lt-or-le}
-use Rattle.lines.specs.Lines.{lineText, readLine}
+use Rattle.lines.specs.Lines.{readLine}
 use Rattle.lines.specs.declared.Line.{Line}
 use Rattle.lines.specs.declared.Line.the-variants.{Good, Bad}
-use Rattle.lines.proofs.Round.{written-read, read-written, read-used, read-split}
+use Rattle.lines.proofs.Round.{lineAs, read-as, written-read, read-used, read-split}
 use Rattle.lines.proofs.Texts.{length-most}
 use Rattle.sheets.specs.Sheets.{words, before, takeLines, sheetLines, readReply, readPuts}
 use Rattle.sheets.proofs.Taking.{no-more, one-too-many, bad-line, good-line, line-some}
@@ -19,38 +20,40 @@ use Rattle.sheets.proofs.Round.{NextRead, next-read, never}
 use Rattle.sheets.proofs.Numbers.{answered}
 
 -- a line that is read has at most 188 bytes
-pub used-most : (s : List ℕ) (l t m k : ℕ) → readLine s ≡ Good l t m k → k ≤ 188
-used-most s l t m k e =
-    let r = written-read s l t m k e in
-    omega (arith, read-used s l t m k e, length-most l t m (r .level) (r .threshold))
+pub used-most : (s : List ℕ) (l t : ℕ) (z : Bool) (m k : ℕ) → readLine s ≡ Good l t z m k → k ≤ 188
+used-most s l t z m k e =
+    let r = written-read s l t z m k e in
+    omega (arith, read-used s l t z m k e, length-most l t m (r .level) (r .threshold))
 
 -- ---- the longest sheet
-one-line : (left line : ℕ) (s w : List ℕ) (n : NextRead left line s w) → length (drop (n .k) s) ≤ 188 * left → length s ≤ 188 * suc left
-one-line left line s w n h = omega (arith, used-most s (n .l) (n .t) (n .m) (n .k) (n .good), length-drop (n .k) s)
+one-line : (left line : ℕ) (s w : List ℕ) (x : ℕ) (n : NextRead left line s w x) → length (drop (n .k) s) ≤ 188 * left → length s ≤ 188 * suc left
+one-line left line s w x n h = omega (arith, used-most s (n .l) (n .t) (n .z) (n .m) (n .k) (n .good), length-drop (n .k) s)
 
-pub lines-most : (left line : ℕ) (s w : List ℕ) → takeLines left line s ≡ words w → length s ≤ 188 * left
-lines-most zero line s w e = ⊎-elim (λ h. never 1 257 w (sym (one-too-many line s h) ∙ e)) (λ h. omega arith) (lt-or-le 0 (length s))
-lines-most (suc left) line s w e =
+pub lines-most : (left line : ℕ) (s w : List ℕ) (x : ℕ) → takeLines left line s ≡ words w x → length s ≤ 188 * left
+lines-most zero line s w x e = ⊎-elim (λ h. never 1 257 w x (sym (one-too-many line s h) ∙ e)) (λ h. omega arith) (lt-or-le 0 (length s))
+lines-most (suc left) line s w x e =
     ⊎-elim
-    (λ h. let n = next-read left line s w e h in one-line left line s w n (lines-most left (suc line) (drop (n .k) s) (n .rest) (n .lines)))
+    (λ h.
+    let n = next-read left line s w x e h in
+    one-line left line s w x n (lines-most left (suc line) (drop (n .k) s) (n .rest) (n .later) (n .lines)))
     (λ h. omega arith)
     (lt-or-le 0 (length s))
 
-good-lines-most : (s w : List ℕ) → sheetLines s ≡ words w → length s ≤ 48128
+good-lines-most : (s w : List ℕ) (x : ℕ) → sheetLines s ≡ words w x → length s ≤ 48128
 unfolding sheetLines
-good-lines-most s w e = lines-most 256 1 s w e
+good-lines-most s w x e = lines-most 256 1 s w x e
 
 pub sheet-most : (s : List ℕ) (room : ℕ) → readReply s room .number ≡ 0 → length s ≤ 48128
-sheet-most s room h = good-lines-most s (readPuts s) (answered s room h .lines)
+sheet-most s room h = good-lines-most s (readPuts s) 0 (answered s room h .lines)
 
 -- ---- a line is decided by its own bytes
-pub line-longer : (s : List ℕ) (l t m k : ℕ) → readLine s ≡ Good l t m k → (rest : List ℕ) → readLine (s ++ rest) ≡ Good l t m k
-line-longer s l t m k e rest =
-    let r = written-read s l t m k e in
-    ap (λ (x : List ℕ). readLine (x ++ rest)) (read-split s l t m k e)
-    ∙ ap readLine (append-assoc (lineText l t m) (drop k s) rest)
-    ∙ read-written l t m (drop k s ++ rest) (r .level) (r .threshold) (r .members)
-    ∙ ap (Good l t m) (sym (read-used s l t m k e))
+pub line-longer : (s : List ℕ) (l t : ℕ) (z : Bool) (m k : ℕ) → readLine s ≡ Good l t z m k → (rest : List ℕ) → readLine (s ++ rest) ≡ Good l t z m k
+line-longer s l t z m k e rest =
+    let r = written-read s l t z m k e in
+    ap (λ (x : List ℕ). readLine (x ++ rest)) (read-split s l t z m k e)
+    ∙ ap readLine (append-assoc (lineAs z l t m) (drop k s) rest)
+    ∙ read-as z l t m (drop k s ++ rest) (r .level) (r .threshold) (r .members) (r .allowed)
+    ∙ ap (Good l t z m) (sym (read-used s l t z m k e))
 
 module _ (s : List ℕ) (n k : ℕ) (h : k ≤ n) where
   cut-split : take n s ≡ take k s ++ take (n - k) (drop k s)
@@ -59,19 +62,19 @@ module _ (s : List ℕ) (n k : ℕ) (h : k ≤ n) where
   pub cut-rest : k ≤ length s → drop k (take n s) ≡ take (n - k) (drop k s)
   cut-rest f = ap (drop k) cut-split ∙ drop-at (take k s) (take (n - k) (drop k s)) k (length-take-le k s f)
 
-  pub line-cut : (l t m : ℕ) → readLine s ≡ Good l t m k → readLine (take n s) ≡ Good l t m k
-  line-cut l t m e =
-      let r = written-read s l t m k e in
+  pub line-cut : (l t : ℕ) (z : Bool) (m : ℕ) → readLine s ≡ Good l t z m k → readLine (take n s) ≡ Good l t z m k
+  line-cut l t z m e =
+      let r = written-read s l t z m k e in
       ap readLine (cut-split ∙ ap (λ (x : List ℕ). x ++ take (n - k) (drop k s)) (r .text))
-      ∙ read-written l t m (take (n - k) (drop k s)) (r .level) (r .threshold) (r .members)
-      ∙ ap (Good l t m) (sym (read-used s l t m k e))
+      ∙ read-as z l t m (take (n - k) (drop k s)) (r .level) (r .threshold) (r .members) (r .allowed)
+      ∙ ap (Good l t z m) (sym (read-used s l t z m k e))
 
 -- a malformed line is no better for being cut
 bad-cut : (s : List ℕ) (n : ℕ) → readLine s ≡ Bad → (x : Line) → readLine (take n s) ≡ x → readLine (take n s) ≡ Bad
 bad-cut s n e Bad g = g
-bad-cut s n e (Good l t m k) g =
-    let a : readLine s ≡ Good l t m k = ap readLine (sym (take-append-drop n s)) ∙ line-longer (take n s) l t m k g (drop n s) in
-    let z : _≡_ {A = ℕ} 0 1 = cc in
+bad-cut s n e (Good l t z m k) g =
+    let a : readLine s ≡ Good l t z m k = ap readLine (sym (take-append-drop n s)) ∙ line-longer (take n s) l t z m k g (drop n s) in
+    let x : _≡_ {A = ℕ} 0 1 = cc in
     absurd (omega arith)
 
 -- ---- so is a sheet
@@ -89,16 +92,16 @@ by-line : (left line n : ℕ) (s : List ℕ) → 188 * suc left < n → 0 < leng
     → (x : Line) → readLine s ≡ x → takeLines (suc left) line (take n s) ≡ takeLines (suc left) line s
 by-line left line n s h p i Bad e =
     bad-line left line (take n s) (still-some s n (omega arith) p) (bad-cut s n e (readLine (take n s)) refl) ∙ sym (bad-line left line s p e)
-by-line left line n s h p i (Good l t m k) e =
-    let u = used-most s l t m k e in
-    let w = line-some s l t m k e in
+by-line left line n s h p i (Good l t z m k) e =
+    let u = used-most s l t z m k e in
+    let w = line-some s l t z m k e in
     let c : k ≤ n = omega arith in
     let f : 188 * left < n - k = omega arith in
-    let b = before ((t + 256 * l) ∷ m ∷ []) in
-    good-line left line (take n s) l t m k (line-cut s n k c l t m e)
+    let b = before ((t + 256 * l) ∷ m ∷ []) (cond z line 0) in
+    good-line left line (take n s) l t z m k (line-cut s n k c l t z m e)
     ∙ ap (λ (x : List ℕ). b (takeLines left (suc line) x)) (cut-rest s n k c (w .1))
     ∙ ap b (i (n - k) (drop k s) f)
-    ∙ sym (good-line left line s l t m k e)
+    ∙ sym (good-line left line s l t z m k e)
 
 pub lines-cut : (left line n : ℕ) (s : List ℕ) → 188 * left < n → takeLines left line (take n s) ≡ takeLines left line s
 lines-cut zero line n s h =

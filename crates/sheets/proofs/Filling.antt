@@ -2,7 +2,7 @@
 -- written stands at the front.
 use Prim.Native.Nat.{ℕ, _≤_, _<_}
 use native.Mathlib.Omega.{arith}
-use mathlib.Core.Path.{_≡_, refl, ap, sym, _∙_}
+use mathlib.Core.Path.{_≡_, refl, ap, ap₂, sym, _∙_}
 use mathlib.Core.List.{List, [], _∷_}
 use mathlib.Core.Logic.{⊎-elim}
 use types.Run.{OneOf}
@@ -10,25 +10,25 @@ use denote.Enum.Declared.{tagOf}
 use borrow.Author.Tests.{lt-ltb, le-ltb, ne-eqb}
 use lib.ListN.{length, take, length-take}
 use Rattle.decimal.specs.Bytes.{atFront}
-use Rattle.meanings.specs.Table.{nodes, records}
-use Rattle.meanings.specs.Faults.{Check, sound, fault, check}
+use Rattle.meanings.specs.Faults.{checkLines}
 use Rattle.meanings.specs.Replies.{Reply, Named, reply, _is_, rank, Place, Count, Lent, untouched}
-use Rattle.meanings.specs.Questions.{onCheck, checkReply}
+use Rattle.meanings.specs.Questions.{onCheck}
 use Rattle.answers.specs.declared.Fault.{Fault}
-use Rattle.answers.specs.declared.Checked.{Checked}
-use Rattle.answers.specs.declared.Checked.the-variants as Cx
 use Rattle.answers.specs.declared.Read.{Read}
 use Rattle.answers.specs.declared.Read.the-variants as Rx
-use Rattle.answers.specs.Said.{faultSays, checkedSays, readSays}
-use Rattle.faults.specs.Walk.{counted}
-use Rattle.faults.proofs.Laws.{counted-back, handed-on}
+use Rattle.answers.specs.Said.{faultSays, readSays}
+use Rattle.faults.proofs.Laws.{fault-number}
 use Rattle.sheets.specs.Sheets.{Taken, words, stops, onTaken, sheetLines, roomReply, readReply, readPuts}
 use Rattle.sheets.specs.Promises.{ReadPromise, Put, Takes}
-use Rattle.sheets.proofs.Numbers.{check-above, sheet-above}
+use Rattle.sheets.proofs.Numbers.{sheet-above}
 
 module _ (own before : List ℕ) where
   pub refused : (told said : Reply) → said ≡ told → 0 < told .number → Lent said told own before before
   refused told said e h = let n : told .number ≡ 0 → ⊥ = λ z. omega arith in untouched e (ne-eqb (told .number) 0 n)
+
+  -- a fault of the records is the answer, whatever would have been answered without it
+  pub refused-fault : (told : Reply) (f : Fault) → faultSays f ≡ told → Lent (faultSays f) told own before before
+  refused-fault told f e = refused told (faultSays f) e (rw e at (fault-number f))
 
   pub too-short : length before < length own → Put own before before (reply 10 (Count is length own ∷ []))
   too-short h = rw (lt-ltb (length before) (length own) h) (record { answers = refl; holds = refl })
@@ -37,39 +37,19 @@ module _ (own before : List ℕ) where
       → Put own before after (reply 0 (Count is length own ∷ []))
   put after h e = rw (le-ltb (length before) (length own) h) (record { answers = refl; holds = e })
 
--- ---- what checking has found
-module _ (t : List ℕ) where
-  by-check : (f : Fault) (c : Check) → check t ≡ c → faultSays f ≡ onCheck c (counted (nodes t) (records t)) → (own before : List ℕ) (x : Reply)
-      → Lent (faultSays f) (onCheck c x) own before before
-  by-check f sound h e own before x =
-      let a = handed-on f sound sound (nodes t) (records t) (reply 1 []) e in
-      let z : _≡_ {A = ℕ} 0 1 = ap (λ (y : Reply). y .number) (sym e ∙ a) in
-      absurd (omega arith)
-  by-check f (fault k p) h e own before x = refused own before (reply k (Place is p ∷ [])) (faultSays f) e (check-above t k p h)
-
-  module _ (o : Checked) (e : checkedSays o ≡ checkReply t) where
-    pub checked-sound : (n k : ℕ) → o ≡ Cx.Sound n k → check t ≡ sound
-    unfolding checkReply
-    checked-sound n k h = counted-back (check t) n k (nodes t) (records t) (sym (ap checkedSays h) ∙ e) .0
-
-    -- a fault is the answer, whatever would have been answered without it
-    pub checked-bad : (f : Fault) → o ≡ Cx.Bad f → (own before : List ℕ) (x : Reply) → Lent (faultSays f) (onCheck (check t) x) own before before
-    unfolding checkReply
-    checked-bad f h own before x = by-check f (check t) refl (sym (ap checkedSays h) ∙ e) own before x
-
 -- ---- what taking the lines has found
 abbrev firstRank : List Named → ℕ
 firstRank [] = 0
 firstRank (x ∷ l) = rank (x .field)
 
-pub taken-words : (x : Taken) (o : List ℕ) (r : Read) (k : ℕ) → Takes x o r → r ≡ Rx.Words k → (x ≡ words (take k o)) × (k ≤ length o)
-taken-words (stops n p) o r k e h =
-    let z : _≡_ {A = ℕ} 8 0 = ap (λ (y : Reply). firstRank (y .names)) (sym (ap readSays h) ∙ e) in
+pub taken-words : (x : Taken) (o : List ℕ) (r : Read) (y k : ℕ) → Takes x o r y → r ≡ Rx.Words k → (x ≡ words (take k o) y) × (k ≤ length o)
+taken-words (stops n p) o r y k e h =
+    let z : _≡_ {A = ℕ} 8 0 = ap (λ (a : Reply). firstRank (a .names)) (sym (ap readSays h) ∙ e) in
     absurd (omega arith)
-taken-words (words w) o r k e h =
+taken-words (words w x) o r y k e h =
     let a : Rx.Words k ≡ Rx.Words (length w) = sym h ∙ e .0 in
     let n : k ≡ length w = cc in
-    (ap words (sym (rw n (e .1))), omega (arith, ap length (e .1), length-take (length w) o))
+    (ap₂ words (sym (rw n (e .1))) (sym (e .2)), omega (arith, ap length (e .1), length-take (length w) o))
 
 -- an answer of another case counts no words
 pub not-counted : (r : Read) → OneOf (1 ∷ 2 ∷ 3 ∷ []) (tagOf Rattle.answers.proofs.Read.the-type r) → (k : ℕ) → r ≡ Rx.Words k → ⊥
@@ -78,16 +58,16 @@ not-counted r h k e =
     ⊎-elim (λ a. omega arith) (⊎-elim (λ a. omega arith) (λ a. omega arith)) h
 
 module _ (s before : List ℕ) where
-  by-lines : (o own : List ℕ) (r : Read) (g : List ℕ → Reply) → ((k : ℕ) → r ≡ Rx.Words k → ⊥) → (x : Taken) → sheetLines s ≡ x → Takes x o r
+  by-lines : (o own : List ℕ) (r : Read) (y : ℕ) (g : List ℕ → ℕ → Reply) → ((k : ℕ) → r ≡ Rx.Words k → ⊥) → (x : Taken) → sheetLines s ≡ x → Takes x o r y
       → Lent (readSays r) (onTaken x (λ k p. reply k (Place is p ∷ [])) g) own before before
-  by-lines o own r g n (stops k p) e t = refused own before (reply k (Place is p ∷ [])) (readSays r) t (sheet-above s k p e)
-  by-lines o own r g n (words w) e t = absurd (n (length w) (t .0))
+  by-lines o own r y g n (stops k p) e t = refused own before (reply k (Place is p ∷ [])) (readSays r) t (sheet-above s k p e)
+  by-lines o own r y g n (words w x) e t = absurd (n (length w) (t .0))
 
-  pub read-stops : (o : List ℕ) (r : Read) → Takes (sheetLines s) o r → ((k : ℕ) → r ≡ Rx.Words k → ⊥) → ReadPromise s before before r
+  pub read-stops : (o : List ℕ) (r : Read) (y : ℕ) → Takes (sheetLines s) o r y → ((k : ℕ) → r ≡ Rx.Words k → ⊥) → ReadPromise s before before r
   unfolding readReply
-  read-stops o r e n = by-lines o (readPuts s) r (λ w. onCheck (check w) (roomReply w (length before))) n (sheetLines s) refl e
+  read-stops o r y e n = by-lines o (readPuts s) r y (λ w x. onCheck (checkLines x w) (roomReply w (length before))) n (sheetLines s) refl e
 
-  pub read-goes : (w : List ℕ) → sheetLines s ≡ words w → (after : List ℕ) (said : Reply)
-      → Lent said (onCheck (check w) (roomReply w (length before))) w before after → Lent said (readReply s (length before)) (readPuts s) before after
+  pub read-goes : (w : List ℕ) (x : ℕ) → sheetLines s ≡ words w x → (after : List ℕ) (said : Reply)
+      → Lent said (onCheck (checkLines x w) (roomReply w (length before))) w before after → Lent said (readReply s (length before)) (readPuts s) before after
   unfolding readReply readPuts
-  read-goes w e after said f = rw e f
+  read-goes w x e after said f = rw e f

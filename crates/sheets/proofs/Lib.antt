@@ -1,8 +1,9 @@
 pub mod Taking
 pub mod Writing
+pub mod Round
+pub mod Noughts
 pub mod Numbers
 pub mod Filling
-pub mod Round
 pub mod Trips
 pub mod Bounds
 pub mod Exact

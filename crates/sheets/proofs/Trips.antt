@@ -1,4 +1,4 @@
--- Both round trips. A sheet that is read is the text of the words read, so writing them gives it back; and the lines of a sound
+-- Both round trips. A sheet that is read has no written 0 and is the text of the words read, so writing them gives it back; and the lines of a sound
 -- table's text are its records, so reading it gives the table back.
 use Prim.Native.Nat.{ℕ, _≤_}
 use mathlib.Core.Path.{_≡_, ap, sym, _∙_}
@@ -10,6 +10,8 @@ use Rattle.decimal.specs.Bytes.{atFront}
 use Rattle.meanings.specs.Faults.{check, sound}
 use Rattle.meanings.specs.Replies.{Reply, reply, _is_, value, Count, leaves, Lent}
 use Rattle.meanings.specs.Questions.{onCheck}
+use Rattle.tables.proofs.Sound.{lines-zero}
+use Rattle.faults.proofs.Numbers.{check-numbered}
 use Rattle.answers.specs.Said.{readSays, wroteSays}
 use Rattle.answers.specs.declared.Read.{Read}
 use Rattle.answers.specs.declared.Read.the-variants.{Words}
@@ -30,9 +32,9 @@ pub record Rewritten (s : List ℕ) : Type 0 where
   pub bytes : sheetText (readPuts s) ≡ s
   pub says : (room : ℕ) → length s ≤ room → writeReply (readPuts s) room ≡ reply 0 (Count is length s ∷ [])
 
-same-text : (s w : List ℕ) → sheetLines s ≡ words w → sheetText w ≡ s
+same-text : (s w : List ℕ) → sheetLines s ≡ words w 0 → sheetText w ≡ s
 unfolding sheetLines
-same-text s w e = lines-text 256 1 s w e
+same-text s w e = lines-text 256 0 s w e
 
 rewrites : (s w : List ℕ) → check w ≡ sound → sheetText w ≡ s → (room : ℕ) → length s ≤ room → writeReply w room ≡ reply 0 (Count is length s ∷ [])
 unfolding writeReply
@@ -51,7 +53,7 @@ pub record Reread (t : List ℕ) : Type 0 where
 
 pub written-then-read : (t : List ℕ) → check t ≡ sound → Reread t
 unfolding readReply readPuts
-written-then-read t e = record { list = rw (text-lines t e); says = λ room h. rw (text-lines t e) (putting t t room e h) }
+written-then-read t e = record { list = rw (text-lines t e); says = λ room h. rw (text-lines t e, lines-zero t) (putting t t room e h) }
 
 -- ---- the same of the two operations, one after the other
 -- what an answer with the number 0 leaves
@@ -65,9 +67,9 @@ count-of n m e = ap (λ (y : Reply). value y Count) e
 found : (own before after : List ℕ) (n : ℕ) → after ≡ atFront own before → n ≡ length own → take n after ≡ own
 found own before after n e h = rw e (take-at own (drop (length own) before) n (sym h))
 
-answer-is : (s : List ℕ) (room : ℕ) → Answered s room → readReply s room ≡ reply 0 (Count is length (readPuts s) ∷ [])
+pub answer-is : (s : List ℕ) (room : ℕ) → Answered s room → readReply s room ≡ reply 0 (Count is length (readPuts s) ∷ [])
 unfolding readReply
-answer-is s room a = rw (a .lines) (putting (readPuts s) (readPuts s) room (a .records-sound) (a .room-enough))
+answer-is s room a = rw (a .lines, lines-zero (readPuts s)) (putting (readPuts s) (readPuts s) room (a .records-sound) (a .room-enough))
 
 -- the words that a reader has put are the words read
 words-put : (s before after : List ℕ) (n : ℕ) → ReadPromise s before after (Words n) → readReply s (length before) .number ≡ 0 → take n after ≡ readPuts s
@@ -92,7 +94,7 @@ bytes-put : (t before after : List ℕ) (n : ℕ) → WritePromise t before afte
 unfolding writeReply
 bytes-put t before after n f =
     let z : writeReply t (length before) .number ≡ 0 = ap (λ (y : Reply). y .number) (sym (f .answers)) in
-    let c = check-zero (sheetText t) (length before) t z in
+    let c = check-zero (sheetText t) (length before) (check t) (check-numbered t) z in
     let a = putting t (sheetText t) (length before) (c .0) (c .1) in (
       c .0,
       found (sheetText t) before after n (put-zero (writeReply t (length before)) (wroteSays (Bytes n)) (sheetText t) before after f z)

@@ -1,48 +1,78 @@
 // Trust sheets: a sheet is read into a lent table, and a table is written as a sheet (SPECIFICATION 2 and 7). A refusal leaves what was
 // lent untouched: lines are read into words of the reader's own, and a writer knows the length of the whole text before it writes.
 ghost use mathlib.Core.Path.{_≡_};
-ghost use Prim.Native.Nat.{_≤_};
+ghost use mathlib.Core.Bool.{cond};
+ghost use Prim.Native.Nat.{_+_, _*_, _<_, _≤_};
 ghost use lib.ListN.{length};
 ghost use Rattle.decimal.specs.Bytes.{atFront};
 ghost use Rattle.meanings.specs.Faults.{check, sound};
 ghost use Rattle.answers.specs.Said.{readSays, wroteSays};
-ghost use Rattle.sheets.specs.Sheets.{sheetText, sheetLines};
-ghost use Rattle.sheets.specs.Promises.{ReadPromise, WritePromise, Put, Takes};
+ghost use Rattle.sheets.specs.Sheets.{earlier, sheetText, sheetLines};
+ghost use Rattle.sheets.specs.Promises.{ReadPromise, WritePromise, Put, Takes, withRecord};
 use answers::Checked;
 use answers::Fault;
 use answers::Read;
 use answers::Wrote;
 use lines::Line;
 
+// What the lines of a sheet come to, and the first whose threshold is a written 0; 0 where there is none.
+struct Lines {
+    read: Read,
+    nought: u64,
+}
+
+// The first line whose threshold is a written 0: one of those before, or else this line, where it has one.
+pub fn first_nought(before: u64, here: bool, line: u64) -> u64
+    ensures { λ o. ⌜ o ≡ earlier before (cond here line 0) ⌝ }
+{
+    if before != 0 {
+        return before;
+    }
+    if here { line } else { 0 }
+}
+
+// The record of a line goes into the words, behind those of the r lines before it.
+pub fn put_record(words: &mut [u64], r: u64, level: u64, threshold: u64, members: u64)
+    requires { ⌜ (2 * r + 1 < length (now words)) × (level ≤ 3) × (threshold ≤ 255) ⌝ }
+    ensures { λ _. ⌜ now (words .exit) ≡ withRecord (now (words .entry)) r level threshold members ⌝ }
+{
+    let at = 2 * r as usize;
+    words[at] = threshold + 256 * level;
+    words[at + 1] = members;
+}
+
 // The lines of a sheet in turn, each from where the one before ended: their records go into the words, two a record, unless a line
 // is malformed or stands where none is left to take.
-fn take_lines(sheet: &[u8], words: &mut [u64]) -> Read
+fn take_lines(sheet: &[u8], words: &mut [u64]) -> Lines
     requires { ⌜ length (now words) ≡ 512 ⌝ }
-    ensures { λ r. ⌜ Takes (sheetLines (now (sheet .entry))) (now (words .exit)) r ⌝ }
+    ensures { λ o. ⌜ Takes (sheetLines (now (sheet .entry))) (now (words .exit)) (o .read) (o .nought) ⌝ }
 {
     let mut at = 0;
     let mut r = 0;
+    let mut nought = 0;
     while at < sheet.len() {
         if r == 256 {
-            return Read::Bad(Fault::Count(257));
+            let read = Read::Bad(Fault::Count(257));
+            return Lines { read, nought };
         }
         let Line::Good {
             level,
             threshold,
+            nought: here,
             members,
             used,
         } = lines::line_at(sheet, at)
         else {
-            return Read::Malformed { line: r as u64 + 1 };
+            let read = Read::Malformed { line: r + 1 };
+            return Lines { read, nought };
         };
-        words[2 * r] = threshold + 256 * level;
-        words[2 * r + 1] = members;
+        put_record(words, r, level, threshold, members);
+        nought = first_nought(nought, here, r + 1);
         at += used;
         r += 1;
     }
-    Read::Words {
-        count: 2 * r as u64,
-    }
+    let read = Read::Words { count: 2 * r };
+    Lines { read, nought }
 }
 
 // The words at the front of the table.
@@ -75,11 +105,12 @@ pub fn read_sheet(sheet: &[u8], table: &mut [u64]) -> Read
 {
     let mut words = [0u64; 512];
     let taken = take_lines(sheet, &mut words);
-    let Read::Words { count } = taken else {
-        return taken;
+    let read = taken.read;
+    let Read::Words { count } = read else {
+        return read;
     };
     let k = count as usize;
-    let checked = faults::check_table(&words[..k]);
+    let checked = faults::check_lines(&words[..k], taken.nought);
     let Checked::Sound {
         nodes: _,
         records: _,

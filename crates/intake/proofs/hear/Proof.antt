@@ -1,15 +1,17 @@
 -- The window grows by what is read; its first line is taken, and it begins behind that.
 use native.Mathlib.Omega.{arith}
-use Prim.Native.Nat.{ℕ, suc, _+_, _-_, _*_, _≤_, _<_}
-use mathlib.Core.Path.{_≡_, refl, sym, ap, _∙_, subst}
-use mathlib.Core.Bool.{false}
+use Prim.Native.Nat.{ℕ, _+_, _-_, _*_, _≤_, _<_}
+use mathlib.Core.Path.{_≡_, refl, sym, _∙_}
+use mathlib.Core.Bool.{false, cond}
 use mathlib.Core.List.{List}
-use lib.ListN.{length, take, drop, set, length-set}
+use lib.ListN.{length, take, drop}
 use lib.Seq.{length-take-le}
 use Rattle.lines.specs.Lines.{readLine}
 use Rattle.lines.specs.declared.Line.the-variants.{Good}
 use Rattle.lines.proofs.Round.{written-read}
-use Rattle.sheets.proofs.Taking.{line-some}
+use Rattle.sheets.specs.Sheets.{earlier}
+use Rattle.sheets.specs.Promises.{withRecord}
+use Rattle.sheets.proofs.Taking.{line-some, length-record}
 use Rattle.sheets.proofs.Bounds.{cut-rest}
 use Rattle.intake.specs.Intake.{UpTo, Hears}
 use Rattle.intake.proofs.Laws.{at-first, more-read, told-all, told-surplus, told-malformed, one-line, grown, widened}
@@ -18,11 +20,11 @@ use Rattle.intake.proofs.hear.Statement.{statement}
 use Rattle.intake.proofs.hear.Tie as tie
 
 abbrev Inv-loop : tie.InvT-loop
-Inv-loop words₀ buf₀ len₀ end₀ bytes₀ r₀ words buf len end bytes r =
-    (length words ≡ 512) × (length buf ≡ 512) × (len ≤ 512) × (r ≤ 256) × UpTo words (take len buf) r × (bytes ≤ 512 * r)
+Inv-loop words₀ buf₀ len₀ end₀ bytes₀ r₀ nought₀ words buf len end bytes r nought =
+    (length words ≡ 512) × (length buf ≡ 512) × (len ≤ 512) × (r ≤ 256) × UpTo words (take len buf) r nought × (bytes ≤ 512 * r)
 
 abbrev μ-loop : tie.MeasureT-loop
-μ-loop words₀ buf₀ len₀ end₀ bytes₀ r₀ words buf len end bytes r = 256 - r
+μ-loop words₀ buf₀ len₀ end₀ bytes₀ r₀ nought₀ words buf len end bytes r nought = 256 - r
 
 -- the window after reading on
 read-on : (c : tie.After-known-told Inv-loop μ-loop) →
@@ -46,14 +48,14 @@ seen-length c =
 
 here : (c : tie.After-known-told Inv-loop μ-loop) →
     let L = c .before .before .before .before .before .before in
-    UpTo (L .loop .words) (seen c) (L .loop .r)
+    UpTo (L .loop .words) (seen c) (L .loop .r) (L .loop .nought)
 here c =
     let W = c .before .before .before .before in
     let L = W .before .before in
     let n = c .before .count .given .0 .0 in
     let a = W .widen .last .0 in
     let f = read-on c in
-    more-read (L .loop .words) (take (L .loop .len) (L .loop .buf)) (L .loop .r) (L .loop .inv .4) (take (n - L .loop .len) (drop (L .loop .len) a)) (seen c)
+    more-read (L .loop .words) (take (L .loop .len) (L .loop .buf)) (L .loop .r) (L .loop .nought) (L .loop .inv .4) (take (n - L .loop .len) (drop (L .loop .len) a)) (seen c)
     (grown (L .loop .len) n (L .loop .buf) a (f .0) (f .3))
 
 loop-holds : tie.Need-loop-holds Inv-loop μ-loop
@@ -86,8 +88,8 @@ add-bytes c =
     let L = c .before .before .before .before .before .before in
     omega (arith, read-on c .1, L .loop .inv .3, L .loop .inv .5)
 
-mul-all : tie.Need-mul-all Inv-loop μ-loop
-mul-all c =
+mul-t20 : tie.Need-mul-t20 Inv-loop μ-loop
+mul-t20 c =
     let L = c .before .before .before .before .before .before .before in
     omega (arith, L .loop .inv .3)
 
@@ -99,7 +101,7 @@ unfolding Hears
 returns-2 c =
     let K = c .before in
     let L = K .before .before .before .before .before .before in
-    told-all (L .loop .words) (seen K) (L .loop .r) (here K) (K .before .count .given .0 .1 .0) (seen-length K ∙ c .if1 .taken)
+    told-all (L .loop .words) (seen K) (L .loop .r) (L .loop .nought) (here K) (K .before .count .given .0 .1 .0) (seen-length K ∙ c .if1 .taken)
     (λ e. let h = read-on K .4 e in omega (arith, c .if1 .taken)) (omega (arith, L .loop .inv .0, L .loop .inv .3))
 
 same-length-3 : tie.Need-same-length-3 Inv-loop μ-loop
@@ -110,7 +112,7 @@ unfolding Hears
 returns-3 c =
     let K = c .before .before in
     let L = K .before .before .before .before .before .before in
-    told-surplus (L .loop .words) (seen K) (L .loop .r) (here K) (K .before .count .given .0 .1 .0) (omega (arith, seen-length K, c .before .if1 .left)) (c .if2 .taken)
+    told-surplus (L .loop .words) (seen K) (L .loop .r) (L .loop .nought) (here K) (K .before .count .given .0 .1 .0) (omega (arith, seen-length K, c .before .if1 .left)) (c .if2 .taken)
 
 array-share-prefix-buf : tie.Need-array-share-prefix-buf Inv-loop μ-loop
 array-share-prefix-buf c = let f = read-on (c .before .before) in omega (arith, f .1, f .2)
@@ -142,101 +144,88 @@ returns-4 c =
     let E = A .before .before in
     let K = E .before .before in
     let L = K .before .before .before .before .before .before in
-    told-malformed (L .loop .words) (seen K) (L .loop .r) (here K) (K .before .count .given .0 .1 .0) (omega (arith, seen-length K, E .before .if1 .left)) (omega (arith, L .loop .inv .3, E .if2 .left))
+    told-malformed (L .loop .words) (seen K) (L .loop .r) (L .loop .nought) (here K) (K .before .count .given .0 .1 .0) (omega (arith, seen-length K, E .before .if1 .left)) (omega (arith, L .loop .inv .3, E .if2 .left))
     (sym (A .line-at .ensures) ∙ c .enum-told2 .given .1) (λ e. let h = read-on K .4 e in omega (arith, seen-length K))
 
 -- the line that was good
 good : (c : tie.After-known-told2 Inv-loop μ-loop) →
     let g = c .before .level .given .0 in
-    readLine (seen (c .before .before .before .before .before .before .before)) ≡ Good (g .0) (g .1 .0) (g .1 .1 .0) (g .1 .1 .1 .0)
+    readLine (seen (c .before .before .before .before .before .before .before)) ≡ Good (g .0) (g .1 .0) (g .1 .1 .0) (g .1 .1 .1 .0) (g .1 .1 .1 .1 .0)
 good c = sym (c .before .before .before .line-at .ensures) ∙ c .before .level .given .1
 
 fits : (c : tie.After-known-told2 Inv-loop μ-loop) →
     let K = c .before .before .before .before .before .before .before in
     let g = c .before .level .given .0 in
-    (g .0 ≤ 3) × (g .1 .0 ≤ 255) × (0 < g .1 .1 .1 .0) × (g .1 .1 .1 .0 ≤ K .before .count .given .0 .0) × (K .before .before .before .before .before .before .loop .r < 256)
+    (g .0 ≤ 3) × (g .1 .0 ≤ 255) × (0 < g .1 .1 .1 .1 .0) × (g .1 .1 .1 .1 .0 ≤ K .before .count .given .0 .0) × (K .before .before .before .before .before .before .loop .r < 256)
 fits c =
     let E = c .before .before .before .before .before in
     let K = E .before .before in
     let L = K .before .before .before .before .before .before in
-    let w = written-read _ _ _ _ _ (good c) in
-    let n = line-some _ _ _ _ _ (good c) in
+    let w = written-read _ _ _ _ _ _ (good c) in
+    let n = line-some _ _ _ _ _ _ (good c) in
     (w .level, w .threshold, n .0, omega (arith, n .1, seen-length K), omega (arith, L .loop .inv .3, E .if2 .left))
 
-mul-words : tie.Need-mul-words Inv-loop μ-loop
-mul-words c = let f = fits c in omega arith
+put-record-requires : tie.Need-put-record-requires Inv-loop μ-loop
+put-record-requires c κs =
+    let L = c .before .before .before .before .before .before .before .before .before .before .before .before .before .before in
+    let f = fits (c .before) in
+    (omega (arith, L .loop .inv .0), f .0, f .1)
 
-add-words : tie.Need-add-words Inv-loop μ-loop
-add-words c = let f = fits c in omega arith
+add-first-nought : tie.Need-add-first-nought Inv-loop μ-loop
+add-first-nought c = let f = fits (c .before .before .before .before) in omega arith
 
-mul-words-2 : tie.Need-mul-words-2 Inv-loop μ-loop
-mul-words-2 c = let f = fits c in omega arith
-
-mul-words-3 : tie.Need-mul-words-3 Inv-loop μ-loop
-mul-words-3 c = let f = fits c in omega arith
-
-slice-write-words : tie.Need-slice-write-words Inv-loop μ-loop
-slice-write-words c =
-    let f = fits c in
-    omega (arith, c .before .before .before .before .before .before .before .before .before .before .before .before .before .loop .inv .0)
-
-mul-words-4 : tie.Need-mul-words-4 Inv-loop μ-loop
-mul-words-4 c = let f = fits c in omega arith
-
-add-words-2 : tie.Need-add-words-2 Inv-loop μ-loop
-add-words-2 c = let f = fits c in omega arith
-
-mul-words-5 : tie.Need-mul-words-5 Inv-loop μ-loop
-mul-words-5 c = let f = fits c in omega arith
-
-slice-write-words-2 : tie.Need-slice-write-words-2 Inv-loop μ-loop
-slice-write-words-2 c =
-    let L = c .before .before .before .before .before .before .before .before .before .before .before .before .before in
-    let f = fits c in
-    omega (arith, L .loop .inv .0, length-set (L .loop .words) (2 * L .loop .r) (c .before .level .given .0 .1 .0 + 256 * c .before .level .given .0 .0))
+first-nought-requires : tie.Need-first-nought-requires Inv-loop μ-loop
+first-nought-requires c κs = search needs
 
 slice-aggregate-shift : tie.Need-slice-aggregate-shift Inv-loop μ-loop
 slice-aggregate-shift c = search needs
 
+-- where the record was put
+abbrev put : (c : tie.After-buf4 Inv-loop μ-loop) → tie.After-put-record Inv-loop μ-loop
+put c = c .before .before .before .before
+
 shift-requires : tie.Need-shift-requires Inv-loop μ-loop
 shift-requires c κs =
-    let G = c .before in
+    let G = put c .before .before in
     let K = G .before .before .before .before .before .before .before in
     let f = fits G in
     (f .3, omega (arith, read-on K .1, read-on K .2))
 
 sub-len : tie.Need-sub-len Inv-loop μ-loop
-sub-len c = fits (c .before .before .before) .3
+sub-len c = fits (put (c .before .before) .before .before) .3
 
 add-r : tie.Need-add-r Inv-loop μ-loop
-add-r c = let f = fits (c .before .before .before) in omega arith
+add-r c = let f = fits (put (c .before .before) .before .before) in omega arith
 
 loop-less : tie.Need-loop-less Inv-loop μ-loop
-loop-less c = let f = fits (c .before .before .before) in omega arith
+loop-less c = let f = fits (put (c .before .before) .before .before) in omega arith
 
 loop-again : tie.Need-loop-again Inv-loop μ-loop
 loop-again c =
     let S = c .before in
-    let G = S .before .before in
+    let N = S .before .before in
+    let P = put (S .before) in
+    let G = P .before .before in
     let K = G .before .before .before .before .before .before .before in
     let L = K .before .before .before .before .before .before in
     let g = G .before .level .given .0 in
     let a = K .before .before .before .before .widen .last .0 in
     let n = K .before .count .given .0 .0 in
-    let used = g .1 .1 .1 .0 in
+    let used = g .1 .1 .1 .1 .0 in
     let w = L .loop .words in
     let r = L .loop .r in
+    let x = L .loop .nought in
     let f = fits G in
     let o = read-on K in
     let same : drop used (seen K) ≡ take (n - used) (S .shift .last .0) =
     cut-rest a n used (f .3) (omega (arith, f .3, o .1, o .2)) ∙ sym (S .shift .ensures .0) in
-    let next : UpTo (set (set w (2 * r) (g .1 .0 + 256 * g .0)) (2 * r + 1) (g .1 .1 .0)) (drop used (seen K)) (r + 1) =
-    one-line w (seen K) r (here K) (g .0) (g .1 .0) (g .1 .1 .0) used (f .4) (omega (arith, f .4, L .loop .inv .0)) (good G) in (
-      length-set (set w (2 * r) (g .1 .0 + 256 * g .0)) (2 * r + 1) (g .1 .1 .0) ∙ length-set w (2 * r) (g .1 .0 + 256 * g .0) ∙ L .loop .inv .0,
+    let next : UpTo (withRecord w r (g .0) (g .1 .0) (g .1 .1 .1 .0)) (drop used (seen K)) (r + 1) (earlier x (cond (g .1 .1 .0) (r + 1) 0)) =
+    one-line w (seen K) r x (here K) (g .0) (g .1 .0) (g .1 .1 .0) (g .1 .1 .1 .0) used (f .4) (omega (arith, f .4, L .loop .inv .0)) (good G) in (
+      rw (P .put-record .ensures) (length-record w r (g .0) (g .1 .0) (g .1 .1 .1 .0) ∙ L .loop .inv .0),
       S .shift .ensures .1 ∙ o .2,
       omega (arith, o .1),
       omega (arith, f .4),
-      subst (λ (x : List ℕ). UpTo (set (set w (2 * r) (g .1 .0 + 256 * g .0)) (2 * r + 1) (g .1 .1 .0)) x (r + 1)) same next,
+      rw (N .first-nought .ensures, P .put-record .ensures, ← same) next,
       omega (arith, o .1, L .loop .inv .5),
     )
 
@@ -255,7 +244,7 @@ hear-spec =
     returns
     sub-bytes
     add-bytes
-    mul-all
+    mul-t20
     same-length-2
     returns-2
     same-length-3
@@ -268,15 +257,9 @@ hear-spec =
     add-t27
     same-length-4
     returns-4
-    mul-words
-    add-words
-    mul-words-2
-    mul-words-3
-    slice-write-words
-    mul-words-4
-    add-words-2
-    mul-words-5
-    slice-write-words-2
+    put-record-requires
+    add-first-nought
+    first-nought-requires
     slice-aggregate-shift
     shift-requires
     sub-len

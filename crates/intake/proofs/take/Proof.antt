@@ -4,9 +4,10 @@ use Prim.Native.Nat.{_≤_}
 use mathlib.Core.Path.{_≡_, sym}
 use lib.ListN.{length, take}
 use lib.Seq.{length-take-le}
-use Rattle.meanings.specs.Faults.{check, sound}
+use Rattle.meanings.specs.Faults.{checkLines, sound}
+use Rattle.faults.proofs.Known.{lines-sound-known}
 use Rattle.sheets.specs.Sheets.{words, sheetLines}
-use Rattle.sheets.proofs.Filling.{taken-words, not-counted, checked-sound}
+use Rattle.sheets.proofs.Filling.{taken-words, not-counted}
 use Rattle.intake.specs.Intake.{Lines, TakesIn}
 use Rattle.intake.proofs.Laws.{heard, whole, whole-takes, was-stopped, was-bad, was-good}
 use borrow.Author.Needs.{needs}
@@ -14,20 +15,24 @@ use Rattle.intake.proofs.take.Statement.{statement}
 use Rattle.intake.proofs.take.Tie as tie
 
 -- what the lines came to
-lines : (c : tie.After-known-told) → Lines (c .before .before .before .before .before .hear .last .0) (c .before .read .given .0 .0) (c .before .read .given .0 .1 .0)
+lines : (c : tie.After-known-told) →
+    let g = c .before .read .given .0 in
+    Lines (c .before .before .before .before .before .hear .last .0) (g .0) (g .1 .0) (g .1 .1 .0)
 lines c =
     let H = c .before .before .before .before .before in
-    heard (H .hear .last .0) (H .hear .result) (c .before .read .given .0 .0) (c .before .read .given .0 .1 .0) (c .before .read .given .0 .1 .1 .0) (H .hear .ensures) (c .before .read .given .1)
+    let g = c .before .read .given .0 in
+    heard (H .hear .last .0) (H .hear .result) (g .0) (g .1 .0) (g .1 .1 .0) (g .1 .1 .1 .0) (H .hear .ensures) (c .before .read .given .1)
 
 -- as the words of a sheet
 counted : (c : tie.After-known-told2) →
     let K = c .before .before .before .before .before in
     let o = K .before .before .before .before .before .hear .last .0 in
-    (sheetLines (whole (lines K)) ≡ words (take (c .before .read2 .given .0 .0) o)) × (c .before .read2 .given .0 .0 ≤ length o)
+    (sheetLines (whole (lines K)) ≡ words (take (c .before .read2 .given .0 .0) o) (K .before .read .given .0 .1 .0)) × (c .before .read2 .given .0 .0 ≤ length o)
 counted c =
     let K = c .before .before .before .before .before in
     let o = K .before .before .before .before .before .hear .last .0 in
-    taken-words (sheetLines (whole (lines K))) o (K .before .read .given .0 .0) (c .before .read2 .given .0 .0) (whole-takes o _ _ (lines K)) (c .before .read2 .given .1)
+    let g = K .before .read .given .0 in
+    taken-words (sheetLines (whole (lines K))) o (g .0) (g .1 .0) (c .before .read2 .given .0 .0) (whole-takes o _ _ _ (lines K)) (c .before .read2 .given .1)
 
 hear-requires : tie.Need-hear-requires
 hear-requires c κs = search needs
@@ -67,18 +72,19 @@ returns-3 c =
     let K = c .before .before .before in
     let s = K .before .before .before .before .before .before .before .before in
     let o = K .before .before .before .before .before .hear .last .0 in
-    was-stopped (whole (lines K)) o (s .args .table .now) (s .pre) (K .before .read .given .0 .0) (whole-takes o _ _ (lines K)) (not-counted (K .before .read .given .0 .0) (c .match2 .keys2))
+    let g = K .before .read .given .0 in
+    was-stopped (whole (lines K)) o (s .args .table .now) (s .pre) (g .1 .0) (g .0) (whole-takes o _ _ _ (lines K)) (not-counted (g .0) (c .match2 .keys2))
 
-slice-reshare-prefix-check-table : tie.Need-slice-reshare-prefix-check-table
-slice-reshare-prefix-check-table c = counted c .1
+slice-reshare-prefix-check-lines : tie.Need-slice-reshare-prefix-check-lines
+slice-reshare-prefix-check-lines c = counted c .1
 
-slice-aggregate-check-table : tie.Need-slice-aggregate-check-table
-slice-aggregate-check-table c =
+slice-aggregate-check-lines : tie.Need-slice-aggregate-check-lines
+slice-aggregate-check-lines c =
     let Q = c .before in
     sym (length-take-le (Q .before .read2 .given .0 .0) (Q .before .before .before .before .before .before .before .before .before .before .hear .last .0) (counted Q .1))
 
-check-table-requires : tie.Need-check-table-requires
-check-table-requires c κs = search needs
+check-lines-requires : tie.Need-check-lines-requires
+check-lines-requires c κs = search needs
 
 enum-told-2 : tie.Need-enum-told-2
 enum-told-2 c = search needs
@@ -100,7 +106,7 @@ returns-4 c =
     let K = Q .before .before .before .before .before in
     let s = K .before .before .before .before .before .before .before .before in
     let o = K .before .before .before .before .before .hear .last .0 in
-    was-bad (whole (lines K)) o (s .args .table .now) (s .pre) (Q .before .read2 .given .0 .0) (counted Q .0) (counted Q .1) (C .check-table .result) (C .check-table .ensures) (c .fault-of .result) (c .fault-of .ensures)
+    was-bad (whole (lines K)) o (s .args .table .now) (s .pre) (K .before .read .given .0 .1 .0) (Q .before .read2 .given .0 .0) (counted Q .0) (counted Q .1) (C .check-lines .result) (C .check-lines .ensures) (c .fault-of .result) (c .fault-of .ensures)
 
 same-length-5 : tie.Need-same-length-5
 same-length-5 c = search needs
@@ -114,9 +120,10 @@ returns-5 c =
     let s = K .before .before .before .before .before .before .before .before in
     let o = K .before .before .before .before .before .hear .last .0 in
     let n = Q .before .read2 .given .0 .0 in
-    let k : check (take n o) ≡ sound = checked-sound (take n o) (C .check-table .result) (C .check-table .ensures) _ _ (c .enum-told2 .given .1) in
+    let x = K .before .read .given .0 .1 .0 in
+    let k : checkLines x (take n o) ≡ sound = lines-sound-known x (take n o) (C .check-lines .result) (C .check-lines .ensures) _ _ (c .enum-told2 .given .1) .0 in
     let l : length o ≡ length (s .args .table .now) = same-length-5 c in
-    was-good (whole (lines K)) o (s .args .table .now) (s .pre) n (counted Q .0) (counted Q .1) (omega (arith, counted Q .1, s .pre)) k
+    was-good (whole (lines K)) o (s .args .table .now) (s .pre) x n (counted Q .0) (counted Q .1) (omega (arith, counted Q .1, s .pre)) k
 
 pub take-spec : {M : Type 1} → statement M
 take-spec =
@@ -133,9 +140,9 @@ take-spec =
     enum-known-read-2
     same-length-3
     returns-3
-    slice-reshare-prefix-check-table
-    slice-aggregate-check-table
-    check-table-requires
+    slice-reshare-prefix-check-lines
+    slice-aggregate-check-lines
+    check-lines-requires
     enum-told-2
     enum-told-3
     fault-of-requires

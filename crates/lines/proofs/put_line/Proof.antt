@@ -8,7 +8,7 @@ use lib.ListN.{length, length-append}
 use borrow.Rule.Slice.PartMut.{putMid}
 use Rattle.decimal.specs.Bytes.{Written}
 use Rattle.decimal.proofs.Place.{within, room, next}
-use Rattle.lines.specs.Lines.{fieldText, lastText, lineText}
+use Rattle.lines.specs.Lines.{fieldText, thresholdText, lastText, lineText}
 use Rattle.lines.proofs.Texts.{length-fields}
 use Rattle.lines.proofs.put_line.Statement.{statement}
 use Rattle.lines.proofs.put_line.Tie as tie
@@ -17,31 +17,31 @@ use Rattle.lines.proofs.put_line.Tie as tie
 level : (c : tie.Start) → length (fieldText (c .args .level)) ≤ length (now (c .args .out))
 level c = omega (arith, c .pre, length-fields (c .args .level) (c .args .threshold) (c .args .members))
 
-threshold : (c : tie.Start) → length (fieldText (c .args .level)) + length (fieldText (c .args .threshold)) ≤ length (now (c .args .out))
+threshold : (c : tie.Start) → length (fieldText (c .args .level)) + length (thresholdText (c .args .threshold)) ≤ length (now (c .args .out))
 threshold c = omega (arith, c .pre, length-fields (c .args .level) (c .args .threshold) (c .args .members))
 
 members : (c : tie.Start) →
     let a = c .args in
-    length (fieldText (a .level) ++ fieldText (a .threshold)) + length (lastText (a .members)) ≤ length (now (a .out))
+    length (fieldText (a .level) ++ thresholdText (a .threshold)) + length (lastText (a .members)) ≤ length (now (a .out))
 members c =
     let a = c .args in
-    omega (arith, c .pre, length-fields (a .level) (a .threshold) (a .members), length-append (fieldText (a .level)) (fieldText (a .threshold)))
+    omega (arith, c .pre, length-fields (a .level) (a .threshold) (a .members), length-append (fieldText (a .level)) (thresholdText (a .threshold)))
 
 first : (c : tie.After-put-field) →
     let a = c .before .before .before .args in
     Written (fieldText (a .level)) (now (a .out)) (c .put-field .last .0) (c .put-field .result)
 first c = c .put-field .ensures
 
-second : (c : tie.After-put-field2) →
+second : (c : tie.After-put-threshold) →
     let f = c .before .before .before .before in
     let a = f .before .before .before .args in
     let at = f .put-field .result in
     let o = f .put-field .last .0 in
-    Written (fieldText (a .level) ++ fieldText (a .threshold)) (now (a .out)) (putMid at (length o - at) o (c .put-field2 .last .0)) (at + c .put-field2 .result)
+    Written (fieldText (a .level) ++ thresholdText (a .threshold)) (now (a .out)) (putMid at (length o - at) o (c .put-threshold .last .0)) (at + c .put-threshold .result)
 second c =
     let f = c .before .before .before .before in
     let s = f .before .before .before in
-    next _ _ _ _ (first f) (fieldText (s .args .threshold)) (threshold s) _ _ (c .put-field2 .ensures)
+    next _ _ _ _ (first f) (thresholdText (s .args .threshold)) (threshold s) _ _ (c .put-threshold .ensures)
 
 third : (c : tie.After-put-last) →
     let g = c .before .before .before .before in
@@ -49,9 +49,9 @@ third : (c : tie.After-put-last) →
     let a = f .before .before .before .args in
     let at₁ = f .put-field .result in
     let o₁ = f .put-field .last .0 in
-    let at = at₁ + g .put-field2 .result in
-    let o = putMid at₁ (length o₁ - at₁) o₁ (g .put-field2 .last .0) in
-    Written ((fieldText (a .level) ++ fieldText (a .threshold)) ++ lastText (a .members)) (now (a .out)) (putMid at (length o - at) o (c .put-last .last .0)) (at + c .put-last .result)
+    let at = at₁ + g .put-threshold .result in
+    let o = putMid at₁ (length o₁ - at₁) o₁ (g .put-threshold .last .0) in
+    Written ((fieldText (a .level) ++ thresholdText (a .threshold)) ++ lastText (a .members)) (now (a .out)) (putMid at (length o - at) o (c .put-last .last .0)) (at + c .put-last .result)
 third c =
     let g = c .before .before .before .before in
     let s = g .before .before .before .before .before .before .before in
@@ -60,33 +60,33 @@ third c =
 put-field-requires : tie.Need-put-field-requires
 put-field-requires c κs = level (c .before .before)
 
-sub-put-field : tie.Need-sub-put-field
-sub-put-field c =
+sub-put-threshold : tie.Need-sub-put-threshold
+sub-put-threshold c =
     let f = c .before .before in
     let s = f .before .before .before in
-    within _ _ _ _ (first f) (fieldText (s .args .threshold)) (threshold s)
+    within _ _ _ _ (first f) (thresholdText (s .args .threshold)) (threshold s)
 
-part-put-field-start : tie.Need-part-put-field-start
-part-put-field-start c =
+part-put-threshold-start : tie.Need-part-put-threshold-start
+part-put-threshold-start c =
     let f = c .before .before in
     let s = f .before .before .before in
-    within _ _ _ _ (first f) (fieldText (s .args .threshold)) (threshold s)
+    within _ _ _ _ (first f) (thresholdText (s .args .threshold)) (threshold s)
 
-part-put-field-end : tie.Need-part-put-field-end
-part-put-field-end c = search needs
+part-put-threshold-end : tie.Need-part-put-threshold-end
+part-put-threshold-end c = search needs
 
-put-field-requires-2 : tie.Need-put-field-requires-2
-put-field-requires-2 c κs =
+put-threshold-requires : tie.Need-put-threshold-requires
+put-threshold-requires c κs =
     let f = c .before .before .before in
     let s = f .before .before .before in
-    room _ _ _ _ (first f) (fieldText (s .args .threshold)) (threshold s)
+    room _ _ _ _ (first f) (thresholdText (s .args .threshold)) (threshold s)
 
 add-b : tie.Need-add-b
 add-b c =
     let g = c .before .before in
     let s = g .before .before .before .before .before .before .before in
     let a = s .args in
-    omega (arith, second g .count, threshold s, length-append (fieldText (a .level)) (fieldText (a .threshold)))
+    omega (arith, second g .count, threshold s, length-append (fieldText (a .level)) (thresholdText (a .threshold)))
 
 sub-put-last : tie.Need-sub-put-last
 sub-put-last c =
@@ -114,7 +114,7 @@ add-result c =
     let p = c .before .before in
     let s = p .before .before .before .before .before .before .before .before .before .before .before in
     let a = s .args in
-    omega (arith, third p .count, members s, length-append (fieldText (a .level) ++ fieldText (a .threshold)) (lastText (a .members)))
+    omega (arith, third p .count, members s, length-append (fieldText (a .level) ++ thresholdText (a .threshold)) (lastText (a .members)))
 
 same-length : tie.Need-same-length
 same-length c = search needs
@@ -124,7 +124,7 @@ unfolding lineText
 returns c =
     let p = c .before .before in
     let a = p .before .before .before .before .before .before .before .before .before .before .before .args in
-    let e = append-assoc (fieldText (a .level)) (fieldText (a .threshold)) (lastText (a .members)) in
+    let e = append-assoc (fieldText (a .level)) (thresholdText (a .threshold)) (lastText (a .members)) in
     rw (← e) (third p)
 
 pub put-line-spec : {M : Type 1} → statement M
@@ -132,10 +132,10 @@ put-line-spec =
     tie.close
     (tie.spec
     put-field-requires
-    sub-put-field
-    part-put-field-start
-    part-put-field-end
-    put-field-requires-2
+    sub-put-threshold
+    part-put-threshold-start
+    part-put-threshold-end
+    put-threshold-requires
     add-b
     sub-put-last
     part-put-last-start

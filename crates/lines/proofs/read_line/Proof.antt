@@ -8,8 +8,9 @@ use denote.Ref.{now}
 use lib.ListN.{length, drop, length-drop}
 use Rattle.decimal.specs.declared.Number.the-variants.{Got}
 use Rattle.decimal.proofs.Order.{rest}
-use Rattle.lines.specs.Lines.{readField, readLast, readLine}
-use Rattle.lines.proofs.Fields.{field-forth, last-forth}
+use Rattle.lines.specs.declared.Threshold.the-variants.{Got as GotThreshold}
+use Rattle.lines.specs.Lines.{readField, readThreshold, readLast, readLine}
+use Rattle.lines.proofs.Fields.{field-forth, threshold-forth, last-forth}
 use Rattle.lines.proofs.read_line.Statement.{statement}
 use Rattle.lines.proofs.read_line.Tie as tie
 
@@ -24,23 +25,24 @@ after-level c = field-forth _ _ _ (level c) .within
 -- the threshold
 threshold : (c : tie.After-known-told2) →
     let e = c .before .before .before .before .before .before in
-    readField (drop (e .before .level .given .0 .1 .0) (now (e .before .before .before .before .before .args .s)))
-    ≡ Got (c .before .threshold .given .0 .0) (c .before .threshold .given .0 .1 .0)
+    let g = c .before .threshold .given .0 in
+    readThreshold (e .before .level .given .0 .0) (drop (e .before .level .given .0 .1 .0) (now (e .before .before .before .before .before .args .s)))
+    ≡ GotThreshold (g .0) (g .1 .0) (g .1 .1 .0)
 threshold c =
     let e = c .before .before .before .before .before .before in
-    ap readField (sym (rest (now (e .before .before .before .before .before .args .s)) (e .before .level .given .0 .1 .0)))
-    ∙ sym (c .before .before .before .read-field2 .ensures)
+    ap (readThreshold (e .before .level .given .0 .0)) (sym (rest (now (e .before .before .before .before .before .args .s)) (e .before .level .given .0 .1 .0)))
+    ∙ sym (c .before .before .before .read-threshold .ensures)
     ∙ c .before .threshold .given .1
 
 after-threshold : (c : tie.After-known-told2) →
     let e = c .before .before .before .before .before .before in
-    e .before .level .given .0 .1 .0 + c .before .threshold .given .0 .1 .0 ≤ length (now (e .before .before .before .before .before .args .s))
+    e .before .level .given .0 .1 .0 + c .before .threshold .given .0 .1 .1 .0 ≤ length (now (e .before .before .before .before .before .args .s))
 after-threshold c =
     let e = c .before .before .before .before .before .before in
     omega (
       arith,
       after-level e,
-      field-forth _ _ _ (threshold c) .within,
+      threshold-forth _ _ _ _ _ (threshold c) .within,
       length-drop (e .before .level .given .0 .1 .0) (now (e .before .before .before .before .before .args .s)),
     )
 
@@ -48,13 +50,13 @@ after-threshold c =
 last : (c : tie.After-read-last) →
     let g = c .before .before in
     let e = g .before .before .before .before .before .before in
-    readLast (drop (e .before .level .given .0 .1 .0 + g .before .threshold .given .0 .1 .0) (now (e .before .before .before .before .before .args .s)))
+    readLast (drop (e .before .level .given .0 .1 .0 + g .before .threshold .given .0 .1 .1 .0) (now (e .before .before .before .before .before .args .s)))
     ≡ c .read-last .result
 last c =
     let g = c .before .before in
     let e = g .before .before .before .before .before .before in
     ap readLast
-    (sym (rest (now (e .before .before .before .before .before .args .s)) (e .before .level .given .0 .1 .0 + g .before .threshold .given .0 .1 .0)))
+    (sym (rest (now (e .before .before .before .before .before .args .s)) (e .before .level .given .0 .1 .0 + g .before .threshold .given .0 .1 .1 .0)))
     ∙ sym (c .read-last .ensures)
 
 read-field-requires : tie.Need-read-field-requires
@@ -74,17 +76,17 @@ returns-2 : tie.Need-returns-2
 unfolding readLine
 returns-2 c = rw (level (c .before)) (simp (lt-ltb _ _ (c .if1 .taken)))
 
-sub-read-field : tie.Need-sub-read-field
-sub-read-field c = after-level (c .before)
+sub-read-threshold : tie.Need-sub-read-threshold
+sub-read-threshold c = after-level (c .before)
 
-part-read-field-start : tie.Need-part-read-field-start
-part-read-field-start c = after-level (c .before)
+part-read-threshold-start : tie.Need-part-read-threshold-start
+part-read-threshold-start c = after-level (c .before)
 
-part-read-field-end : tie.Need-part-read-field-end
-part-read-field-end c = search needs
+part-read-threshold-end : tie.Need-part-read-threshold-end
+part-read-threshold-end c = search needs
 
-read-field-requires-2 : tie.Need-read-field-requires-2
-read-field-requires-2 c κs = search needs
+read-threshold-requires : tie.Need-read-threshold-requires
+read-threshold-requires c κs = search needs
 
 enum-known-threshold : tie.Need-enum-known-threshold
 enum-known-threshold c = search needs
@@ -99,7 +101,7 @@ returns-3 c =
     let f = r .before .before in
     let e = f .before in
     let s = now (e .before .before .before .before .before .args .s) in
-    rw (level e, ← rest s (e .before .level .given .0 .1 .0), ← r .read-field2 .ensures, c .enum-told2 .given .1) (simp (le-ltb _ _ (f .if1 .left)))
+    rw (level e, ← rest s (e .before .level .given .0 .1 .0), ← r .read-threshold .ensures, c .enum-told2 .given .1) (simp (le-ltb _ _ (f .if1 .left)))
 
 add-at : tie.Need-add-at
 add-at c = omega (arith, after-threshold c)
@@ -130,8 +132,8 @@ returns-4 c =
     let f = g .before .before .before .before .before in
     rw (level (f .before), threshold g, last r, c .enum-told3 .given .1) (simp (le-ltb _ _ (f .if1 .left)))
 
-add-t13 : tie.Need-add-t13
-add-t13 c =
+add-t14 : tie.Need-add-t14
+add-t14 c =
     let r = c .before .before .before in
     let g = r .before .before in
     let e = g .before .before .before .before .before .before in
@@ -139,7 +141,7 @@ add-t13 c =
       arith,
       after-threshold g,
       last-forth _ _ _ (last r ∙ c .before .members .given .1) .within,
-      length-drop (e .before .level .given .0 .1 .0 + g .before .threshold .given .0 .1 .0) (now (e .before .before .before .before .before .args .s)),
+      length-drop (e .before .level .given .0 .1 .0 + g .before .threshold .given .0 .1 .1 .0) (now (e .before .before .before .before .before .args .s)),
     )
 
 returns-5 : tie.Need-returns-5
@@ -159,10 +161,10 @@ read-line-spec =
     enum-told
     returns
     returns-2
-    sub-read-field
-    part-read-field-start
-    part-read-field-end
-    read-field-requires-2
+    sub-read-threshold
+    part-read-threshold-start
+    part-read-threshold-end
+    read-threshold-requires
     enum-known-threshold
     enum-told-2
     returns-3
@@ -174,5 +176,5 @@ read-line-spec =
     enum-known-members
     enum-told-3
     returns-4
-    add-t13
+    add-t14
     returns-5)

@@ -2,9 +2,11 @@
 use borrow.Author.Needs.{needs}
 use lib.ListN.{length}
 use Rattle.meanings.specs.Faults.{check, sound}
+use Rattle.meanings.specs.Questions.{onCheck}
+use Rattle.faults.proofs.Known.{sound-known, fault-known}
 use mathlib.Core.Path.{_≡_}
 use Rattle.sheets.specs.Sheets.{sheetText, roomReply, writeReply}
-use Rattle.sheets.proofs.Filling.{checked-sound, checked-bad}
+use Rattle.sheets.proofs.Filling.{refused-fault}
 use Rattle.sheets.proofs.write_sheet.Statement.{statement}
 use Rattle.sheets.proofs.write_sheet.Tie as tie
 
@@ -25,14 +27,16 @@ unfolding writeReply
 returns c =
     let k = c .before .before .before in
     let a = k .before .before .before .args in
-    checked-bad (a .table .now) (k .check-table .result) (k .check-table .ensures) (c .fault-of .result) (c .fault-of .ensures) (sheetText (a .table .now)) (a .sheet .now)
-    (roomReply (sheetText (a .table .now)) (length (a .sheet .now)))
+    let t = a .table .now in
+    let f = c .fault-of .result in
+    let r = roomReply (sheetText t) (length (a .sheet .now)) in
+    refused-fault (sheetText t) (a .sheet .now) (onCheck (check t) r) f (fault-known t (k .check-table .result) (k .check-table .ensures) f (c .fault-of .ensures) r)
 
 -- the table is sound
 found : (c : tie.After-enum-told) → check (c .before .before .before .before .before .args .table .now) ≡ sound
 found c =
     let k = c .before .before in
-    checked-sound (k .before .before .before .args .table .now) (k .check-table .result) (k .check-table .ensures) _ _ (c .enum-told .given .1)
+    sound-known (k .before .before .before .args .table .now) (k .check-table .result) (k .check-table .ensures) _ _ (c .enum-told .given .1) .0
 
 fill-sheet-requires : tie.Need-fill-sheet-requires
 fill-sheet-requires c κs = found (c .before)
