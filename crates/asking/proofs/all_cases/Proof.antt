@@ -1,8 +1,8 @@
 -- What is left of the turns falls. Assumes nothing.
 use Prim.Native.Nat.{_≤_}
 use borrow.Author.Needs.{needs}
-use Rattle.cases.proofs.all_cases.Statement.{statement}
-use Rattle.cases.proofs.all_cases.Tie as tie
+use Rattle.asking.proofs.all_cases.Statement.{statement}
+use Rattle.asking.proofs.all_cases.Tie as tie
 
 abbrev Inv-loop : tie.InvT-loop
 Inv-loop s at₀ left₀ at left = left ≤ 4096

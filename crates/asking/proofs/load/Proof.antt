@@ -1,8 +1,8 @@
 -- The place stays within the list, and what is left of it falls. Assumes nothing.
 use Prim.Native.Nat.{_≤_, _-_}
 use borrow.Author.Needs.{needs}
-use Rattle.cases.proofs.load.Statement.{statement}
-use Rattle.cases.proofs.load.Tie as tie
+use Rattle.asking.proofs.load.Statement.{statement}
+use Rattle.asking.proofs.load.Tie as tie
 
 abbrev Inv-loop : tie.InvT-loop
 Inv-loop s words₀ at₀ i₀ words at i = i ≤ 520
