@@ -33,7 +33,9 @@ struct Set {
 
 fn parse(table: &[u64], at: &mut usize, level: u64) -> Set {
     let control = table[2 * *at];
-    let mut set = Set { threshold: (control % 256) as u32, members: table[2 * *at + 1], inner: Vec::new() };
+    // A threshold of 0 is an unknown archive's, which nobody satisfies: as high as none can reach, it costs judging no test.
+    let threshold = if control % 256 == 0 { u32::MAX } else { (control % 256) as u32 };
+    let mut set = Set { threshold, members: table[2 * *at + 1], inner: Vec::new() };
     *at += 1;
     while 2 * *at < table.len() && table[2 * *at] / 256 > level {
         set.inner.push(parse(table, at, level + 1));
@@ -191,7 +193,7 @@ fn timed(mut f: impl FnMut() -> Reply) -> (Reply, f64) {
 
 fn main() {
     let allowance = 1_000_000u64;
-    println!("{:14} {:9} {:>3} {:>9} {:>10} {:>10} {:>6}", "shape", "question", "no", "visits", "proved", "plain", "ratio");
+    println!("{:19} {:9} {:>3} {:>9} {:>10} {:>10} {:>6}", "shape", "question", "no", "visits", "proved", "plain", "ratio");
     for path in std::env::args().skip(1) {
         let sheet = std::fs::read(&path).expect("a sheet");
         let mut table = [0u64; 512];
@@ -245,7 +247,7 @@ fn main() {
             assert_eq!(ours, theirs, "{shape} {question}");
             let each = |ns: f64| ns / visits as f64;
             println!(
-                "{shape:14} {question:9} {:3} {visits:9} {:8.1}ns {:8.1}ns {:6.2}",
+                "{shape:19} {question:9} {:3} {visits:9} {:8.1}ns {:8.1}ns {:6.2}",
                 a.number, each(proved), each(plain), plain / proved
             );
         }

@@ -69,7 +69,7 @@ fn taken(sheet: &[u8]) -> [usize; 11] {
 }
 
 fn line(shape: &str, columns: impl Iterator<Item = String>) {
-    println!("{shape:14}{}", columns.map(|c| format!(" {c:>8}")).collect::<String>());
+    println!("{shape:19}{}", columns.map(|c| format!(" {c:>8}")).collect::<String>());
 }
 
 fn main() {
