@@ -2,7 +2,8 @@
  *
  * Every function takes any input, comes to an end, and answers a struct: the number of the table below, and its fields, 0 where a
  * number does not name a field. A number above 0 leaves every lent buffer as it was; an answer (number 0) writes only its own words or
- * bytes at the front. A table is a list of 64-bit words, two a record; a set of nodes is a mask, node i having the value 2^i.
+ * bytes at the front. A table is a list of 64-bit words, two a record; a set of nodes is a mask, node i having the value 2^i. A record of two
+ * words 0 that has no inner sets is an archive whose sheet is unknown: a node that no set satisfies.
  *
  * Arguments come in one order: inputs (pointer, then length), then sets and numbers, then the allowance, then the lent buffer and its room.
  *
@@ -17,8 +18,8 @@
  * Threads: nothing is kept between calls and there are no globals, so several threads may call at once. Two calls may read one input; a
  * lent buffer belongs to one call until it returns.
  *
- * Stack (bench/stack): at most 59,320 bytes were measured for a report, 37,320 for a list, 25,096 for a verdict or the intact nodes, 4,544
- * for reading a sheet, 832 for anything else, on tables of 64 nodes and 256 records whose searches go as deep as they can: the depth is
+ * Stack (bench/stack): at most 59,272 bytes were measured for a report, 37,288 for a list, 25,048 for a verdict or the intact nodes, 4,560
+ * for reading a sheet, 800 for anything else, on tables of 64 nodes and 256 records whose searches go as deep as they can: the depth is
  * bounded by the nodes, whatever the allowance. A thread with 96 KiB of stack is enough for a report, one with 64 KiB for all the others.
  *
  *   number  when                                                   also given
@@ -27,7 +28,7 @@
  *   2       control word 1,024 or more                             place: the record, from 1
  *   3       first record not level 0, or a level jump              place
  *   4       a 65th level 0 record                                  place
- *   5       threshold 0                                            place
+ *   5       threshold 0 of a record that is no unknown archive     place
  *   6       a member that is no node                               place
  *   7       threshold above the entries                            place
  *   8       an argument set or node number outside the nodes
@@ -64,7 +65,8 @@ typedef struct {
 /* Checks a packed table. 0: nodes, records. 1 to 7. */
 breezedrum_reply breezedrum_check(const uint64_t *table, size_t words);
 
-/* Reads a sheet into `table`, which has room for `words`. 0: count, the words written. 12; 1 to 7; 10. */
+/* Reads a sheet into `table`, which has room for `words`. The threshold of an unknown archive is written `?`; a written 0 gives 5.
+ * 0: count, the words written. 12; 1 to 7; 10. */
 breezedrum_reply breezedrum_read_sheet(const uint8_t *sheet, size_t bytes, uint64_t *table, size_t words);
 
 /* Writes a table as a sheet into `sheet`, which has room for `bytes`. 0: count, the bytes written. 1 to 7; 10. */
@@ -89,7 +91,7 @@ breezedrum_reply breezedrum_verdict(const uint64_t *table, size_t words, uint64_
 /* The minimal quorums, in the listing order, into `sets`, which has room for `room`. 0: count, visits. 1 to 7; 9; 13; 10. */
 breezedrum_reply breezedrum_minimal(const uint64_t *table, size_t words, uint64_t allowance, uint64_t *sets, size_t room);
 
-/* The minimal blocking sets, likewise. */
+/* The minimal blocking sets, likewise. Where unknown archives leave no quorum at all, there is one, the empty set, and no minimal quorum. */
 breezedrum_reply breezedrum_blocking(const uint64_t *table, size_t words, uint64_t allowance, uint64_t *sets, size_t room);
 
 /* The nodes that stay intact for the ill set `ill`. 0: set, visits. 1 to 7; 8; 9; 11; 13. */

@@ -30,7 +30,7 @@ Nodes = Union[int, Iterable[int]]
 """A set of nodes: their ids, or one mask in which node i has the value 2^i."""
 
 Table = Iterable[int]
-"""A packed table: 64-bit words, two a record."""
+"""A packed table: 64-bit words, two a record. Two words 0 without inner sets are an unknown archive, which no set satisfies."""
 
 Bytes = Union[bytes, bytearray, memoryview]
 TEXT = (str, bytes, bytearray, memoryview)
@@ -57,7 +57,7 @@ class Number(enum.IntEnum):
     CONTROL = 2, "control word 1,024 or more", "place"
     LEVEL = 3, "first record not level 0, or a level jump", "place"
     NODES = 4, "a 65th level 0 record", "place"
-    THRESHOLD = 5, "threshold 0", "place"
+    THRESHOLD = 5, "threshold 0 of a record that is no unknown archive", "place"
     MEMBER = 6, "a member that is no node", "place"
     ENTRIES = 7, "threshold above the entries", "place"
     OUTSIDE = 8, "an argument set or node number outside the nodes", ""
@@ -175,7 +175,7 @@ class Checker:
         return self._ask("check", "nodes records", _words(table))
 
     def read_sheet(self, sheet: Bytes, room: Optional[int] = None) -> Reply:
-        """A sheet as a table, in `words`."""
+        """A sheet as a table, in `words`. The threshold of an unknown archive is written `?`; a written 0 is refused with 5."""
         return self._fill("read_sheet", "count", U64, room, WORDS, _bytes(sheet))
 
     def write_sheet(self, table: Table, room: Optional[int] = None) -> Reply:
@@ -211,7 +211,7 @@ class Checker:
         return self._fill("minimal", "count visits", U64, room, SETS, _words(table), number(allowance, "the allowance"))
 
     def blocking(self, table: Table, allowance: int, room: Optional[int] = None) -> Reply:
-        """The minimal blocking sets in the listing order, as masks in `words`."""
+        """The minimal blocking sets in the listing order, as masks in `words`. With no quorum at all it is the empty set, 0, alone."""
         return self._fill("blocking", "count visits", U64, room, SETS, _words(table), number(allowance, "the allowance"))
 
     def intact(self, table: Table, ill: Nodes, allowance: int) -> Reply:

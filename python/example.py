@@ -18,5 +18,5 @@ elif verdict.yes:
 else:
     print("verdict  no,", breezedrum.shown(verdict.first), "and", breezedrum.shown(verdict.second), "share no archive")
 for name, listed in ("minimal ", checker.minimal(read.words, ALLOWANCE)), ("blocking", checker.blocking(read.words, ALLOWANCE)):
-    print(name, listed if listed.number else "  ".join(map(breezedrum.shown, listed.words)))
+    print(name, listed if listed.number else "  ".join(map(breezedrum.shown, listed.words)) or "none")
 print("The report:", checker.report(sheet).text.decode(), sep="\n", end="")

@@ -1,6 +1,6 @@
 //! Breezedrum from Rust: safe functions over the static library (`rt staticlib interface`). Every function takes any input; an answer is a
 //! `Reply`, the number (SPECIFICATION 7) and its fields, 0 where the number does not name a field. A number above 0 leaves every lent
-//! buffer as it was.
+//! buffer as it was. A record of two words 0 that has no inner sets is an archive whose sheet is unknown: a node that no set satisfies.
 
 #[repr(C)]
 #[derive(Clone, Copy, Debug, Default, PartialEq, Eq)]
@@ -46,7 +46,7 @@ pub fn check(table: &[u64]) -> Reply {
     unsafe { c::breezedrum_check(table.as_ptr(), table.len()) }
 }
 
-/// Reads a sheet into `table`.
+/// Reads a sheet into `table`. The threshold of an unknown archive is written `?`; a written 0 gives number 5.
 pub fn read_sheet(sheet: &[u8], table: &mut [u64]) -> Reply {
     unsafe { c::breezedrum_read_sheet(sheet.as_ptr(), sheet.len(), table.as_mut_ptr(), table.len()) }
 }
@@ -86,7 +86,7 @@ pub fn minimal(table: &[u64], allowance: u64, sets: &mut [u64]) -> Reply {
     unsafe { c::breezedrum_minimal(table.as_ptr(), table.len(), allowance, sets.as_mut_ptr(), sets.len()) }
 }
 
-/// The minimal blocking sets, in the listing order, into `sets`.
+/// The minimal blocking sets, in the listing order, into `sets`. Where there is no quorum at all, the empty set is the only one.
 pub fn blocking(table: &[u64], allowance: u64, sets: &mut [u64]) -> Reply {
     unsafe { c::breezedrum_blocking(table.as_ptr(), table.len(), allowance, sets.as_mut_ptr(), sets.len()) }
 }
