@@ -1,5 +1,6 @@
 // What the operations answer. An answer is an enum; specs/Said.antt sets out the number and values (SPECIFICATION 7) of each of its cases,
 // and proofs/Exact.antt shows that no two answers say the same.
+#![tactic(auto)]
 
 // Numbers 1 to 7: why a table is turned away, with the place.
 #[derive(Drop)]

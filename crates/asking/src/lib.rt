@@ -4,6 +4,8 @@
 // many bytes: a sheet, or the words of a table at 8 bytes each. Numbers stand lowest byte first. The line of a case has the eleven fields
 // of its reply, and then the words that were written; the text of a written sheet or a report follows its line. What else changed in the
 // lent buffer would be printed too.
+#![tactic(auto)]
+
 use libc::{STDIN_FILENO, STDOUT_FILENO};
 use replies::Reply;
 use std::num::wrapping_add_usize;

@@ -1,3 +1,5 @@
+#![tactic(auto)]
+
 // Stored questions of every kind.
 fn main() {
     asking::ask_all();

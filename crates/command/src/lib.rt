@@ -1,5 +1,7 @@
 // What the report program does (SPECIFICATION 9). It is a library function, so that programs with other stored runs are the same program: a
 // program has one run in the gate.
+#![tactic(auto)]
+
 use intake::Taken;
 use libc::STDERR_FILENO;
 use printing::Shown;

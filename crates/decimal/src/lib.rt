@@ -1,4 +1,6 @@
 // Decimal numbers without leading zeros: read up to 255, written up to 2^64 - 1 (SPECIFICATION 2).
+#![tactic(auto)]
+
 ghost use Rattle.std.specs.Prelude.{◌≡◌, ◌≤◌, length, get_or};
 ghost use Rattle.decimal.specs.Bytes.{Written};
 ghost use Rattle.decimal.specs.Decimal.{numeral, digit_at, read_number};

@@ -3,6 +3,8 @@
 // way, but that a written 0 is no unknown archive's threshold (`check_lines`).
 // Two passes over the records: the first finds any of 2 to 5 and counts the nodes, the second finds 6 or 7. A record's inner sets
 // are counted by walking the run of deeper records after it, so each record is walked by those above it, three at most.
+#![tactic(auto)]
+
 ghost use Rattle.std.specs.Prelude.{◌≡◌, true, ◌+◌, ◌*◌, ◌<◌, ◌≤◌, ◌-◌, length};
 ghost use Rattle.sets.specs.Sets.{within, everyone};
 ghost use Rattle.meanings.specs.Table.{records, nodes as nodes_of, level as level_of, entries as entries_of};

@@ -1,5 +1,7 @@
 // A line of fields, each a fixed word, a number or a set of nodes, with tabs between them: the one writer of every line that is no sheet's.
 // A field is two words: its kind, and the number, the set, or which of the fixed words it is.
+#![tactic(auto)]
+
 ghost use Rattle.std.specs.Prelude.{◌≡◌, ◌≤◌, length};
 ghost use Rattle.decimal.specs.Bytes.{Written};
 ghost use Rattle.fields.specs.Fields.{field_text, line_of, end_at, ended, Counted};

@@ -1,6 +1,8 @@
 // What lasts of a set of nodes: the greatest quorum within it, found by striking the unsatisfied nodes one after another, each with those
 // alike, and judging only the nodes that are due, which may have lost something. In which order nodes are struck alters nothing; the rounds
 // that are counted (SPECIFICATION 3) lie with `rounds`.
+#![tactic(auto)]
+
 ghost use Rattle.std.specs.Prelude.{◌≡◌, true, ℕ, ◌+◌, ◌*◌, ◌<◌, ◌^◌, length};
 ghost use Rattle.meanings.specs.Of as of;
 ghost use Rattle.sets.specs.Sets.{has, nobody, only, ◌∪◌, ◌∖◌, empty, each};

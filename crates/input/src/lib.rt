@@ -2,6 +2,8 @@
 //
 // Which bytes a read puts into the buffer, and whether one fails, the system's contract does not say. What can be promised is what its
 // answer is taken to mean, that the count lies within the buffer, and that reading ends.
+#![tactic(auto)]
+
 ghost use Rattle.std.specs.Prelude.{length};
 ghost use Rattle.input.specs.Reading.{Goes, Means, Within};
 

@@ -1,5 +1,7 @@
 // Who is intact, for a set of ill nodes? The rounds that find the intact nodes (SPECIFICATION 6), within an allowance of visits that serves
 // all their verdicts in turn.
+#![tactic(auto)]
+
 ghost use Rattle.std.specs.Prelude.{◌≡◌, true, suc, ◌<◌, ◌^◌};
 ghost use Rattle.meanings.specs.Of as of;
 ghost use Rattle.sets.specs.Sets.{everyone, ◌∖◌, within as within_set};

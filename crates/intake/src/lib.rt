@@ -1,5 +1,7 @@
 // Reading a sheet from standard input as it comes in. Only a window of it is held, so that little stack is taken: a line has at most 188 bytes,
 // and its record is two words.
+#![tactic(auto)]
+
 ghost use Rattle.std.specs.Prelude.{◌≡◌, ◌-◌, ◌≤◌, ◌<◌, length, take, drop};
 ghost use Rattle.intake.specs.Intake.{FitsIn, filled_is, Widens, Hears, TakesIn};
 

@@ -1,5 +1,7 @@
 // The C interface, for technicians: every public operation under a C name. A function takes what the operation takes and no more; an answer
 // is one struct with the number, the place and the fields of SPECIFICATION 7, 0 where a field is not named.
+#![tactic(auto)]
+
 ghost use Rattle.meanings.specs.Of as of;
 ghost use Rattle.meanings.specs.Questions.{check_reply, quorum_reply, greatest_reply, blocks_reply, verdict_reply, minimal_reply, blocking_reply, intact_reply};
 ghost use Rattle.std.specs.Prelude.{length};

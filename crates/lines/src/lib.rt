@@ -1,4 +1,6 @@
 // Lines of a trust sheet: level, tab, threshold, tab, members, LF (SPECIFICATION 2).
+#![tactic(auto)]
+
 ghost use Rattle.std.specs.Prelude.{◌≡◌, ◌≤◌, length, drop};
 ghost use Rattle.decimal.specs.Bytes.{Written};
 ghost use Rattle.lines.specs.Lines.{field_text, threshold_text, last_text, line_text, read_field, read_threshold, read_last, read_line};

@@ -2,6 +2,8 @@
 // trees differ in when a visit is a leaf and which nodes it may split on. The test of minimality is the same for both, and is made only
 // where a set would be listed: a set is minimal when none of its nodes can be spared. In a visit of the tree of blocking sets g is the
 // greatest quorum outside c, and a node is due that is new outside c and r.
+#![tactic(auto)]
+
 ghost use Rattle.std.specs.Prelude.{◌≡◌, true};
 ghost use Rattle.meanings.specs.Of as of;
 ghost use Rattle.sets.specs.Sets.{has, nobody, everyone, only, ◌∪◌, ◌∖◌};
@@ -13,7 +15,7 @@ ghost use Rattle.listing_visits.specs.Visits.{Ground, Stands, Ready, ReadyBlocki
 use quorum_visits::{Met, Visit};
 
 // Which sets are searched for, and so by which tree.
-#[derive(Drop)]
+#[derive(Clone, Copy)]
 pub enum Sought {
     Quorums,
     Blocking,

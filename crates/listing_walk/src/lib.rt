@@ -1,5 +1,7 @@
 // Walking a listing tree within an allowance: SPECIFICATION 5. One walk serves both trees. It counts every listed set, and writes it where
 // there is a place for it; visits spent are handed along, so that a refusal is handed back unchanged.
+#![tactic(auto)]
+
 ghost use Rattle.std.specs.Prelude.{◌≡◌, set};
 ghost use Rattle.meanings.specs.Table.{nodes, satisfied};
 ghost use Rattle.listing_visits.specs.Visits.{tree_at};
@@ -19,7 +21,7 @@ fn put(out: &mut [u64], at: u64, x: u64)
 }
 
 // What stays the same throughout a search: the sets sought, all nodes, and the allowance.
-#[derive(Drop)]
+#[derive(Clone, Copy)]
 pub struct Search {
     pub sought: Sought,
     pub all: u64,

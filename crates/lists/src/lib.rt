@@ -1,5 +1,7 @@
 // The minimal quorums and the minimal blocking sets: SPECIFICATION 5 and 7. A refusal must leave the lent list untouched, so the first walk
 // writes into a list of its own; only where that is too short and the lent one is not is the tree walked for a second time.
+#![tactic(auto)]
+
 ghost use Rattle.std.specs.Prelude.{◌≡◌, ◌++◌, ◌≤◌, length, take, drop};
 ghost use Rattle.meanings.specs.Faults.{check, sound};
 ghost use Rattle.listing_visits.specs.Visits.{Ground};

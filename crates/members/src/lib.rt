@@ -1,5 +1,7 @@
 // Member lists: ids in rising order with commas, or a lone hyphen for no members (SPECIFICATION 2).
 // A set of nodes is a 64-bit mask, in which node i has the value 2^i.
+#![tactic(auto)]
+
 ghost use Rattle.std.specs.Prelude.{◌≡◌, ◌≤◌, ◌<◌, ◌^◌, length};
 ghost use Rattle.decimal.specs.Bytes.{Written};
 ghost use Rattle.members.specs.Members.{member_text, read_id, read_ids, read_members};

@@ -1,3 +1,5 @@
+#![tactic(auto)]
+
 // The report program, run on more bytes than it reads.
 fn main() {
     command::run();

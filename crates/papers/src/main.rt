@@ -1,3 +1,5 @@
+#![tactic(auto)]
+
 // The reports on the papers' worked examples.
 fn main() {
     stored::run();

@@ -1,4 +1,6 @@
 // A plan for the searches, found once for a question: for each node what is judged for it, who is alike, and who can lose something when it is struck.
+#![tactic(auto)]
+
 ghost use Rattle.std.specs.Prelude.{◌≡◌, true, suc, ◌<◌, ◌≤◌, length};
 ghost use Rattle.meanings.specs.Table.{records, nodes as nodes_of};
 ghost use Rattle.meanings.specs.Faults.{check, sound};

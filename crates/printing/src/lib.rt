@@ -1,6 +1,8 @@
 // The report on standard output, one line after the other, within a small stack: the same lines that `report` puts into a buffer. Which
 // bytes the system writes no contract can say; each function that prints a part of the report on a table is told how many bytes are handed over
 // before it, and asks that the part stands there in the report.
+#![tactic(auto)]
+
 ghost use Rattle.std.specs.Prelude.{◌≡◌, cond, ◌≤◌, length};
 ghost use Rattle.replies.specs.Shows.{told};
 ghost use Rattle.words.specs.Words.{word_text};

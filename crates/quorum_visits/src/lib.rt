@@ -1,6 +1,8 @@
 // A visit of the tree of the verdict or of the minimal quorums (SPECIFICATION 5), and what it hands to the two visits below it, so that
 // nothing is judged twice: without the node that is split on, only what that node touches is judged again; with it, the greatest quorum in
 // reach is the same, and only chosen nodes that are due are judged.
+#![tactic(auto)]
+
 ghost use Rattle.std.specs.Prelude.{◌≡◌, ◌<◌, ◌^◌};
 ghost use Rattle.sets.specs.Sets.{only, ◌∪◌, ◌∖◌};
 ghost use Rattle.meanings.specs.Table.{nodes};
@@ -10,7 +12,7 @@ ghost use Rattle.quorum_visits.specs.Visits.{Stands, MetIs, Ready, Below, chosen
 
 // The chosen nodes c and the open nodes r; the greatest quorum g in reach; the chosen nodes that are due, which may be unsatisfied; and
 // whether c has grown since the visit above.
-#[derive(Drop)]
+#[derive(Clone, Copy)]
 pub struct Visit {
     pub c: u64,
     pub r: u64,

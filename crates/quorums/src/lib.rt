@@ -1,5 +1,7 @@
 // Questions about one set of nodes (SPECIFICATION 3): is it a quorum, what is the greatest quorum within it, does it block a node? Any list
 // of words may be asked about: the numbers 1 to 7 of its table come first, then 8, then the answer.
+#![tactic(auto)]
+
 ghost use Rattle.std.specs.Prelude.{◌≡◌, true, ◌<◌};
 ghost use Rattle.meanings.specs.Of as of;
 ghost use Rattle.sets.specs.Sets.{within as within_set, everyone};

@@ -1,5 +1,7 @@
 // A reply as a plain struct: the number and the fields of SPECIFICATION 7, for a caller in C and for the lines of the report. One function
 // for each answer enum makes it.
+#![tactic(auto)]
+
 ghost use Rattle.std.specs.Prelude.{[], ◌∷◌};
 ghost use Rattle.meanings.specs.Replies.{reply, ◌is◌, Place, Nodes, Records, Answer, Set, Rounds, First, Second, Count, Visits};
 ghost use Rattle.answers.specs.Said.{fault_says, checked_says, read_says, wrote_says, judged_says, greatest_says, verdict_says, listed_says, intact_says};
@@ -9,7 +11,7 @@ use answers::{Checked, Fault, Greatest, Intact, Judged, Listed, Read, Verdict, W
 
 // The number and the fields of a reply, 0 where the number does not name a field.
 #[repr(C)]
-#[derive(Drop)]
+#[derive(Clone, Copy)]
 pub struct Reply {
     pub number: u64,
     pub place: u64,

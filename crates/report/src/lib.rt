@@ -1,5 +1,7 @@
 // The report on a sheet, whole, in a lent buffer (SPECIFICATION 9). The program prints the same lines one by one.
 // A buffer that is too short must stay as it was, so the report is measured first.
+#![tactic(auto)]
+
 ghost use Rattle.std.specs.Prelude.{◌≡◌, ◌≤◌, length};
 ghost use Rattle.answers.specs.Said.{wrote_says};
 ghost use Rattle.replies.specs.Shows.{told};

@@ -1,4 +1,6 @@
 // The lines of the report (SPECIFICATION 9): each is one list of fields, made of what an answer says. `fields` writes it.
+#![tactic(auto)]
+
 ghost use Rattle.std.specs.Prelude.{◌≡◌};
 ghost use Rattle.replies.specs.Shows.{told};
 ghost use Rattle.words.specs.Words.{word_text};

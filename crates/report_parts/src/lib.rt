@@ -1,5 +1,7 @@
 // The parts of a report as they are measured and written (SPECIFICATION 9): the lines of the nodes and the verdict, and each list with the
 // lines of its sets. Each part is lent what is left of the buffer.
+#![tactic(auto)]
+
 ghost use Rattle.std.specs.Prelude.{◌*◌, ◌≤◌, length};
 ghost use Rattle.decimal.specs.Bytes.{Written};
 ghost use Rattle.words.specs.Words.{word_text};

@@ -1,5 +1,7 @@
 // The greatest quorum within a set, by rounds (SPECIFICATION 3): a round drops, all at once, every node that those present, with the nodes
 // counted out added, do not satisfy.
+#![tactic(auto)]
+
 ghost use Rattle.std.specs.Prelude.{◌≡◌, ◌<◌};
 ghost use Rattle.sets.specs.Sets.{each};
 ghost use Rattle.meanings.specs.Table.{nodes as nodes_of, satisfied as satisfied_is};

@@ -1,5 +1,7 @@
 // Judging a quorum set (SPECIFICATION 3): does a set of nodes satisfy it? One walk over its records, first to last, with a counter a level:
 // what the sets that it stands in still want. The records of the table are sound.
+#![tactic(auto)]
+
 ghost use Rattle.std.specs.Prelude.{◌≡◌, true, false, ℕ, suc, ◌+◌, ◌-◌, ◌<◌, leb};
 ghost use Rattle.sets.specs.Sets.{size};
 ghost use Rattle.meanings.specs.Table.{records, level as level_of, threshold as threshold_of};

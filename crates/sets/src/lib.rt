@@ -1,5 +1,7 @@
 // Sets of nodes as words: node i has the value 2^i. Each function answers for the set that a word stands for; `a | b` and `a & b`
 // are the nodes in either and in both.
+#![tactic(auto)]
+
 ghost use Rattle.std.specs.Prelude.{◌≡◌, ◌<◌, ◌≤◌};
 ghost use Rattle.sets.specs.Sets.{has, only, everyone, ◌∖◌, size, lowest};
 

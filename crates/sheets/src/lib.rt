@@ -1,5 +1,7 @@
 // Trust sheets: a sheet is read into a lent table, and a table is written as a sheet (SPECIFICATION 2 and 7). A refusal leaves what was
 // lent untouched: lines are read into words of the reader's own, and a writer knows the length of the whole text before it writes.
+#![tactic(auto)]
+
 ghost use Rattle.std.specs.Prelude.{◌≡◌, cond, ◌+◌, ◌*◌, ◌<◌, ◌≤◌, length};
 ghost use Rattle.decimal.specs.Bytes.{at_front};
 ghost use Rattle.meanings.specs.Faults.{check, sound};

@@ -1,4 +1,6 @@
 // The reports on stored sheets, one after the other: each sheet stands behind its length, two bytes with the lower first.
+#![tactic(auto)]
+
 use input::Got;
 use libc::STDIN_FILENO;
 use std::num::wrapping_add_usize;

@@ -1,4 +1,6 @@
 // The packed table (SPECIFICATION 1): reading a record, and finding the records that open the nodes. Records are counted from 0.
+#![tactic(auto)]
+
 ghost use Rattle.std.specs.Prelude.{◌≡◌, ◌+◌, ◌*◌, ◌<◌, ◌≤◌, ◌^◌, length};
 ghost use Rattle.meanings.specs.Table.{control as control_of, level as level_of, threshold as threshold_of, members as members_of, nodes as nodes_of};
 ghost use Rattle.meanings.specs.Faults.{check, sound};

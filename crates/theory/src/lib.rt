@@ -1,1 +1,2 @@
 // Laws of quorums over any monotone satisfaction: this crate has no code, and knows nothing of tables.
+#![tactic(auto)]

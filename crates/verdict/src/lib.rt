@@ -1,4 +1,6 @@
 // Do all quorums intersect? The search for two quorums with no node in common (SPECIFICATION 5), within an allowance of visits.
+#![tactic(auto)]
+
 ghost use Rattle.std.specs.Prelude.{◌≡◌};
 ghost use Rattle.meanings.specs.Of as of;
 ghost use Rattle.verdict.specs.Search.{Visiting, Looked, within, tree_of};
@@ -12,7 +14,7 @@ use answers::{Checked, Verdict};
 use quorum_visits::{Met, Visit};
 
 // What stays the same throughout a search: the nodes counted out, the ground and half its number, and the allowance.
-#[derive(Drop)]
+#[derive(Clone, Copy)]
 pub struct Question {
     pub d: u64,
     pub ground: u64,
