@@ -13,22 +13,16 @@ use Rattle.intact.specs.Rounds.{handed_on, on_yes, on_no}
 use Rattle.verdict.proofs.Allowance.{NotYes}
 use Rattle.intact.proofs.Allowance.{NotNo}
 
-pub not-no : (o : Verdict) → OneOf (0 ∷ 2 ∷ 3 ∷ 4 ∷ 5 ∷ []) (tag_of Rattle.answers.specs.contracts.Verdict.the_type o) → NotNo o
-not-no (Vx.No a b k) h =
-    ⊎_elim (λ (e : ◌≡◌ {A = ℕ} 1 0). omega arith)
-    (⊎_elim (λ (e : ◌≡◌ {A = ℕ} 1 2). omega arith)
-    (⊎_elim (λ (e : ◌≡◌ {A = ℕ} 1 3). omega arith) (⊎_elim (λ (e : ◌≡◌ {A = ℕ} 1 4). omega arith) (λ (e : ◌≡◌ {A = ℕ} 1 5). omega arith)))) h
+pub not-no : (o : Verdict) → ((a b k : ℕ) → o ≡ Vx.No a b k → ⊥) → NotNo o
+not-no (Vx.No a b k) h = h a b k refl
 not-no (Vx.Yes k) h = tt
 not-no (Vx.Spent k) h = tt
 not-no Vx.Unsplit h = tt
 not-no Vx.Outside h = tt
 not-no (Vx.Bad f) h = tt
 
-pub not_spent : (o : Verdict) → OneOf (0 ∷ 1 ∷ 3 ∷ 4 ∷ 5 ∷ []) (tag_of Rattle.answers.specs.contracts.Verdict.the_type o) → Ix.Unsplit ≡ handed_on o
-not_spent (Vx.Spent k) h =
-    absurd (⊎_elim (λ (e : ◌≡◌ {A = ℕ} 2 0). omega arith)
-    (⊎_elim (λ (e : ◌≡◌ {A = ℕ} 2 1). omega arith)
-    (⊎_elim (λ (e : ◌≡◌ {A = ℕ} 2 3). omega arith) (⊎_elim (λ (e : ◌≡◌ {A = ℕ} 2 4). omega arith) (λ (e : ◌≡◌ {A = ℕ} 2 5). omega arith)))) h)
+pub not_spent : (o : Verdict) → ((k : ℕ) → o ≡ Vx.Spent k → ⊥) → Ix.Unsplit ≡ handed_on o
+not_spent (Vx.Spent k) h = absurd (h k refl)
 not_spent (Vx.Yes k) h = refl
 not_spent (Vx.No a b k) h = refl
 not_spent Vx.Unsplit h = refl

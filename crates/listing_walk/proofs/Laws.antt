@@ -38,20 +38,6 @@ list_counted (fork x y) = then_counted (list x) (list y) (list_counted x) (list_
 abbrev pub Refuses : Listed → Type 0
 Refuses o = (count visits : ℕ) → o ≡ Sets count visits → ⊥
 
-abbrev Tag : Listed → ℕ
-Tag o = denote.Enum.Declared.tag_of Rattle.answers.specs.contracts.Listed.the_type o
-
--- as the code learns it
-pub refused : (o : Listed) → (Tag o ≡ 1) ⊎ ((Tag o ≡ 2) ⊎ ((Tag o ≡ 3) ⊎ (Tag o ≡ 4))) → Refuses o
-refused (Sets k v) (inl h) count visits e = absurd (omega arith)
-refused (Sets k v) (inr (inl h)) count visits e = absurd (omega arith)
-refused (Sets k v) (inr (inr (inl h))) count visits e = absurd (omega arith)
-refused (Sets k v) (inr (inr (inr h))) count visits e = absurd (omega arith)
-refused (Short k) h count visits e = let w : ◌≡◌ {A = ℕ} 0 1 = cc in absurd (omega arith)
-refused (Spent k) h count visits e = let w : ◌≡◌ {A = ℕ} 0 1 = cc in absurd (omega arith)
-refused Unsplit h count visits e = let w : ◌≡◌ {A = ℕ} 0 1 = cc in absurd (omega arith)
-refused (Bad f) h count visits e = let w : ◌≡◌ {A = ℕ} 0 1 = cc in absurd (omega arith)
-
 -- what an answer tells of the tree: every visit that should split does, and all were within the allowance
 pub record Told (L : Listing ℕ) (allowance spent so_far count visits : ℕ) : Type 0 where
   pub finds : List ℕ

@@ -25,14 +25,9 @@ from_sheet (Rx.Malformed line) words w = rw (← w.says) refl
 from_sheet (Rx.Bad f) words w = rw (← w.says, fault_some f) refl
 
 -- what refuses a sheet, as the code learns it
-abbrev Tag : Read → ℕ
-Tag r = denote.Enum.Declared.tag_of Rattle.answers.specs.contracts.Read.the_type r
-
-pub from-refused : (r : Read) (words : List ℕ) → (Tag r ≡ 1) ⊎ ((Tag r ≡ 2) ⊎ (Tag r ≡ 3)) → report_from r words ≡ refused_line (read_says r)
+pub from-refused : (r : Read) (words : List ℕ) → ((k : ℕ) → r ≡ Rx.Words k → ⊥) → report_from r words ≡ refused_line (read_says r)
 unfolding report_from
-from-refused (Rx.Words count) words (inl h) = absurd (omega arith)
-from-refused (Rx.Words count) words (inr (inl h)) = absurd (omega arith)
-from-refused (Rx.Words count) words (inr (inr h)) = absurd (omega arith)
+from-refused (Rx.Words count) words h = absurd (h count refl)
 from-refused (Rx.Short count) words h = refl
 from-refused (Rx.Malformed line) words h = refl
 from-refused (Rx.Bad f) words h = refl

@@ -50,20 +50,14 @@ module _ (s before after : List ℕ) (r : Read) (p : ReadPromise s before after 
     good_sheet = rw (table_read, eq-eqb (read_reply s most_words).number 0 number)
 
 -- ---- a bad sheet: the line of what its reader says
-abbrev Tag : Read → ℕ
-Tag r = denote.Enum.Declared.tag_of Rattle.answers.specs.contracts.Read.the_type r
-
--- as the code learns it
-refused-some : (r : Read) → (Tag r ≡ 1) ⊎ ((Tag r ≡ 2) ⊎ (Tag r ≡ 3)) → eqb (read_says r).number 0 ≡ false
-refused-some (Rx.Words count) (inl h) = absurd (omega arith)
-refused-some (Rx.Words count) (inr (inl h)) = absurd (omega arith)
-refused-some (Rx.Words count) (inr (inr h)) = absurd (omega arith)
+refused-some : (r : Read) → ((k : ℕ) → r ≡ Rx.Words k → ⊥) → eqb (read_says r).number 0 ≡ false
+refused-some (Rx.Words count) h = absurd (h count refl)
 refused-some (Rx.Short count) h = refl
 refused-some (Rx.Malformed line) h = refl
 refused-some (Rx.Bad f) h = fault_some f
 
 pub bad_sheet : (s before after : List ℕ) (r : Read) → ReadPromise s before after r → length before ≡ most_words
-    → (Tag r ≡ 1) ⊎ ((Tag r ≡ 2) ⊎ (Tag r ≡ 3)) → refused_line (read_says r) ≡ report_of s
+    → ((k : ℕ) → r ≡ Rx.Words k → ⊥) → refused_line (read_says r) ≡ report_of s
 unfolding report_of
 bad_sheet s before after r p room h =
     let e = reads s before after r p room in

@@ -19,6 +19,7 @@ Among x (y ∷ l) = (x ≡ y) ⊎ Among x l
 
 module _ {A : Type 0} where
   pub among_left : (x : A) (l m : List A) → Among x l → Among x (l ++ m)
+  among_left x [] m x'' = elim x'' [ ]
   among_left x (y ∷ l) m (inl e) = inl e
   among_left x (y ∷ l) m (inr p) = inr (among_left x l m p)
 
@@ -32,10 +33,12 @@ module _ {A : Type 0} where
   among_cases x (y ∷ l) m (inr p) = ⊎_elim (λ q. inl (inr q)) (λ q. inr q) (among_cases x l m p)
 
   pub among_map : {B : Type 0} (f : A → B) (x : A) (l : List A) → Among x l → Among (f x) (map f l)
+  among_map {B = B} f x [] x'' = elim x'' [ ]
   among_map f x (y ∷ l) (inl e) = inl (ap f e)
   among_map f x (y ∷ l) (inr p) = inr (among_map f x l p)
 
   pub map_among : {B : Type 0} (f : A → B) (z : B) (l : List A) → Among z (map f l) → (x : A) × Among x l × (z ≡ f x)
+  map_among {B = B} f z [] x' = elim x' [ ]
   map_among f z (y ∷ l) (inl e) = (y, inl refl, e)
   map_among f z (y ∷ l) (inr p) = let w = map_among f z l p in (w.0, inr w.1, w.2)
 
@@ -43,6 +46,7 @@ module _ {A : Type 0} where
   module _ (p : A → Bool) where
     pub keep_in : (x : A) (l : List A) → Among x l → p x ≡ true → Among x (keep p l)
     unfolding keep
+    keep_in x [] x3 q = elim x3 [ ]
     keep_in x (y ∷ l) (inl e) q = rw (keep, sym (ap p e) ∙ q) (inl e)
     keep_in x (y ∷ l) (inr m) q = go (p y) (keep_in x l m q)
       where
@@ -52,6 +56,7 @@ module _ {A : Type 0} where
 
     pub keep_out : (x : A) (l : List A) → Among x (keep p l) → Among x l × (p x ≡ true)
     unfolding keep
+    keep_out x [] m = elim m [ ]
     keep_out x (y ∷ l) m = go (p y) refl (keep_out x l) m
       where
         go : (b : Bool) → p y ≡ b → (Among x (keep p l) → Among x l × (p x ≡ true)) → Among x (cons_if b y (keep p l))
@@ -62,6 +67,7 @@ module _ {A : Type 0} where
 
     pub all_at : (l : List A) → all p l ≡ true → (x : A) → Among x l → p x ≡ true
     unfolding all
+    all_at [] e x x4 = elim x4 [ ]
     all_at (y ∷ l) e x (inl q) = ap p q ∙ (and_parts (p y) (all p l) e).0
     all_at (y ∷ l) e x (inr m) = all_at l (and_parts (p y) (all p l) e).1 x m
 
@@ -78,6 +84,7 @@ module _ {A : Type 0} where
 
     pub at_some : (l : List A) (x : A) → Among x l → p x ≡ true → some p l ≡ true
     unfolding some
+    at_some [] x x4 q = elim x4 [ ]
     at_some (y ∷ l) x (inl e) q = or_left (p y) (some p l) (sym (ap p e) ∙ q)
     at_some (y ∷ l) x (inr m) q = or_right (p y) (some p l) (at_some l x m q)
 
@@ -99,6 +106,7 @@ subsets-all (suc n) m h = go (m % 2) refl (subsets-all n (m / 2) (half_lt n m h)
 
 pub subsets-lt : (n m : ℕ) → Among m (subsets n) → m < 2 ^ n
 unfolding subsets
+subsets-lt zero m (inr x'') = elim x'' [ ]
 subsets-lt zero m (inl e) = omega arith
 subsets-lt (suc n) m p =
     ⊎_elim (λ q. even (subsets-lt n) (map_among (λ (k : ℕ). 2 * k) m (subsets n) q))

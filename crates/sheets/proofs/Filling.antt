@@ -51,12 +51,6 @@ taken_words (words w x) o r y k e h =
     let n : k ≡ length w = cc in
     (ap₂ words (sym (rw n e.1)) (sym e.2), omega (arith, ap length e.1, length-take (length w) o))
 
--- an answer of another case counts no words
-pub not-counted : (r : Read) → OneOf (1 ∷ 2 ∷ 3 ∷ []) (tag_of Rattle.answers.specs.contracts.Read.the_type r) → (k : ℕ) → r ≡ Rx.Words k → ⊥
-not-counted r h k e =
-    let z : tag_of Rattle.answers.specs.contracts.Read.the_type r ≡ 0 = ap (tag_of Rattle.answers.specs.contracts.Read.the_type) e in
-    ⊎_elim (λ a. omega arith) (⊎_elim (λ a. omega arith) (λ a. omega arith)) h
-
 module _ (s before : List ℕ) where
   by_lines : (o own : List ℕ) (r : Read) (y : ℕ) (g : List ℕ → ℕ → Reply) → ((k : ℕ) → r ≡ Rx.Words k → ⊥) → (x : Taken) → sheet_lines s ≡ x → Takes x o r y
       → Lent (read_says r) (on_taken x (λ k p. reply k (Place is p ∷ [])) g) own before before

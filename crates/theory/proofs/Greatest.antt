@@ -19,6 +19,7 @@ abbrev unions : List ℕ → ℕ
 unions l = foldr (λ q all. q ∪ all) nobody l
 
 unions_in : (i q : ℕ) (l : List ℕ) → Among q l → In q i → In (unions l) i
+unions_in i q [] x'' p = elim x'' [ ]
 unions_in i q (x ∷ l) (inl e) p = ∪-left x (unions l) i (subst (λ (y : ℕ). In y i) e p)
 unions_in i q (x ∷ l) (inr m) p = ∪_right x (unions l) i (unions_in i q l m p)
 

@@ -1,5 +1,5 @@
 -- The two visits below a split, and how their walks make up the whole.
-use mathlib.Core.Path.{◌≡◌, sym, ap, ◌∙◌, subst}
+use mathlib.Core.Path.{◌≡◌, refl, sym, ap, ◌∙◌, subst}
 use mathlib.Core.List.{List, [], ◌∷◌}
 use mathlib.Core.Logic.{⊎_elim}
 use types.Run.{OneOf}
@@ -55,11 +55,8 @@ module _ (t plan : List ℕ) (d : ℕ) (a : Visit) (S : Stands t plan d a) (due 
       parts = Looks.parts t d a.c a.r w.few w.waiter.not-dry w.waiter.no-quorum on on_is z small S.waiting.below S.open_in v b ev b_is
 
 -- an answer that is not the first case is no yes
-pub not_yes : (o : Verdict) → OneOf (1 ∷ 2 ∷ 3 ∷ 4 ∷ 5 ∷ []) (tag_of Rattle.answers.specs.contracts.Verdict.the_type o) → NotYes o
-not_yes (Yes k) h = ⊎_elim (λ e. never e) (⊎_elim (λ e. never e) (⊎_elim (λ e. never e) (⊎_elim (λ e. never e) (λ e. never e)))) h
-  where
-    never : {k : ℕ} → 0 ≡ suc k → ⊥
-    never e = omega arith
+pub not_yes : (o : Verdict) → ((k : ℕ) → o ≡ Yes k → ⊥) → NotYes o
+not_yes (Yes k) h = h k refl
 not_yes (No a b k) h = tt
 not_yes (Spent k) h = tt
 not_yes Unsplit h = tt

@@ -1,0 +1,24 @@
+-- What is counted so far and what the run still has from the next record on are together what the run has.
+use mathlib.Core.Path.{◌≡◌, refl, sym, ap, ◌∙◌}
+use mathlib.Core.Bool.{true}
+use mathlib.Core.List.{List}
+use mathlib.Core.Logic.{⊎_elim}
+use Prim.Native.Nat.{ℕ, ◌+◌, ◌-◌, ◌<◌, ◌≤◌}
+use native.Mathlib.Omega.{arith}
+use native.Mathlib.Numerals.{add-one}
+use native.Mathlib.Nat.{zero-add}
+use lib.ListN
+use Rattle.meanings.specs.Table.{records, level}
+use Rattle.tables.specs.Run.{inner_run}
+use Rattle.tables.proofs.Runs.{inner_from, from_stop, from_end, from_hit, from_deeper, from_le}
+use Rattle.faults.proofs.inner_sets.Given as goal
+
+-- the run from record j on
+abbrev pub left : List ℕ → ℕ → ℕ → ℕ
+left t above j = inner_from (λ i. true) t above j
+
+abbrev pub invariant-loop-j : goal.invariant-loop-j
+invariant-loop-j l = (l.j ≤ records l.t) × (l.count ≤ l.j) × (l.count + left l.t l.above l.j ≡ left l.t l.above (l.r + 1))
+
+abbrev pub decreases-loop-j : goal.decreases-loop-j
+decreases-loop-j l = records l.t - l.j

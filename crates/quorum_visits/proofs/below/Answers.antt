@@ -1,0 +1,14 @@
+-- Either way.
+use mathlib.Core.Path.{sym, subst}
+use mathlib.Core.Bool.{Bool}
+use Rattle.quorum_visits.specs.Visits.{Below, chosen_below}
+use borrow.Author.Rules.{rules}
+use Rattle.quorum_visits.proofs.below.Goals as goal
+
+pub returns-then-taken : goal.returns-then-taken
+returns-then-taken c =
+    subst (λ (b : Bool). Below c.args.t.now c.args.plan.now c.args.d c.args.a c.args.v (chosen_below c.args.a c.args.v b) c.take.result) (sym c.if-taken.true) c.take.ensures
+
+pub returns : goal.returns
+returns c =
+    subst (λ (b : Bool). Below c.args.t.now c.args.plan.now c.args.d c.args.a c.args.v (chosen_below c.args.a c.args.v b) c.leave.result) (sym c.if-taken.false) c.leave.ensures

@@ -1,0 +1,8 @@
+-- The list's part follows from what it promises.
+use borrow.Author.Rules.{rules}
+use Rattle.report.proofs.Parts.{blocking_part_lem}
+use Rattle.report.proofs.blocking.Goals as goal
+
+pub returns : goal.returns
+returns c =
+    blocking_part_lem _ _ _ c.blocking_sets.result c.of_listed.result c.requires c.of_listed.ensures c.blocking_sets.ensures

@@ -1,0 +1,8 @@
+-- The list's part follows from what it promises.
+use borrow.Author.Rules.{rules}
+use Rattle.report.proofs.Parts.{minimal_part_lem}
+use Rattle.report.proofs.minimal.Goals as goal
+
+pub returns : goal.returns
+returns c =
+    minimal_part_lem _ _ _ c.minimal_quorums.result c.of_listed.result c.requires c.of_listed.ensures c.minimal_quorums.ensures

@@ -1,0 +1,24 @@
+-- What is counted so far and the lines of the sets that are left are as long as all; each turn counts one set more.
+use borrow.Author.Rules.{rules}
+use native.Mathlib.Omega.{arith}
+use native.Mathlib.Nat.{zero-add}
+use Prim.Native.Nat.{ℕ, ◌+◌, ◌-◌, ◌*◌, ◌≤◌}
+use mathlib.Core.Path.{◌≡◌, ap}
+use mathlib.Core.List.{List}
+use lib.ListN.{length, drop, get_or}
+use Rattle.words.specs.Words.{word_text}
+use Rattle.report_lines.specs.Lines.{set_line, set_lines}
+use Rattle.report_parts.proofs.Sets.{length_next, no_set}
+use Rattle.report_parts.proofs.sets_len.Given as goal
+
+pub record Sofar (letter : ℕ) (sets : List ℕ) (total i : ℕ) : Type 0 where
+  pub place : i ≤ length sets
+  pub few : length sets ≤ 1024
+  pub counted : total + length (set_lines (word_text letter) (drop i sets)) ≡ length (set_lines (word_text letter) sets)
+  pub within : total ≤ 1092 * i
+
+abbrev pub invariant-loop-i : goal.invariant-loop-i
+invariant-loop-i l = Sofar l.letter l.sets l.total l.i
+
+abbrev pub decreases-loop-i : goal.decreases-loop-i
+decreases-loop-i l = length l.sets - l.i

@@ -1,0 +1,25 @@
+-- The outer loop's invariant is that what is left of those present is the answer, and the rounds so far with those still to come the
+-- number; the inner walk gathers, node by node, those who stay. A round that is not the last leaves fewer, so the rounds end.
+use Prim.Native.Nat.{ℕ, ◌-◌, ◌≤◌}
+use native.Mathlib.Omega.{arith}
+use mathlib.Core.Path.{◌≡◌, refl, sym, ap₂, ◌∙◌, subst}
+use mathlib.Core.Logic.{⊎_elim, inl, inr}
+use borrow.Author.Tests.{eqb-true, eqb-false}
+use Rattle.sets.specs.Sets.{◌∪◌, size, set_of}
+use Rattle.meanings.specs.Table.{nodes as nodes_of}
+use Rattle.tables.proofs.Sound.{sound_table}
+use Rattle.rounds.proofs.Laws.{stays, one_stays, one_goes, gathered, Standing, none_left, start, last, fewer, again}
+use borrow.Author.Rules.{rules}
+use Rattle.rounds.proofs.survivors.Given as goal
+
+abbrev pub invariant-loop-v : goal.invariant-loop-v
+invariant-loop-v l = (l.v ≤ l.nodes) × (l.keep ≡ set_of l.v (stays l.t l.with l.present))
+
+abbrev pub decreases-loop-v : goal.decreases-loop-v
+decreases-loop-v l = l.nodes - l.v
+
+abbrev pub invariant-rounds : goal.invariant-rounds
+invariant-rounds l = Standing l.t l.d l.u l.present l.count
+
+abbrev pub decreases-rounds : goal.decreases-rounds
+decreases-rounds l = size (nodes_of l.t) l.present
