@@ -1,7 +1,6 @@
 -- Two answers that say the same are the same: from what an answer says, the answer can be read back.
 use mathlib.Core.Path.{◌≡◌, refl, sym, ap, ◌∙◌}
 use mathlib.Core.Bool.{Bool, true, false, ◌&&◌}
-use mathlib.Core.List.{[]}
 use lib.Dec.{eqb, leb}
 use Rattle.meanings.specs.Replies.{Reply, value, Place, Nodes, Records, Answer, Set, Rounds, First, Second, Count, Visits}
 use Rattle.answers.specs.declared.Fault.{Fault}

@@ -1,5 +1,5 @@
 -- The listing order, and all sets of nodes in it.
-use Rattle.std.specs.Prelude.{Bool, not, ◌&&◌, List, [], ◌∷◌, ◌++◌, map, ℕ, zero, suc, ◌+◌, ◌*◌}
+use Rattle.std.specs.Prelude.{Bool, not, ◌&&◌, List, [], ◌∷◌, ◌++◌, map, ℕ, zero, suc, ◌*◌}
 use Rattle.sets.specs.Sets.{has, nobody, lowest, ◌∪◌, ◌∖◌}
 use Rattle.sets.specs.Lists.{keep, all, some}
 

@@ -3,15 +3,14 @@
 -- without and one with it differ: a lower node is in c, and so in both, or out of reach, and so in neither.
 use mathlib.Core.Path.{◌≡◌, refl, sym, ap, ◌∙◌, subst}
 use mathlib.Core.Bool.{Bool, true, false, not, ◌&&◌}
-use mathlib.Core.List.{[]}
-use mathlib.Core.Logic.{◌⊎◌, ⊎_elim}
+use mathlib.Core.Logic.{⊎_elim}
 use Prim.Native.Nat.{ℕ, zero, suc, ◌^◌, ◌≤◌, ◌<◌}
 use native.Mathlib.Nat.{not-suc-le-zero}
 use native.Mathlib.Omega.{arith}
 use borrow.Author.Tests.{eqb-true, eqb-false}
 use lib.Dec.{eqb}
 use lib.Pow.{pow_pos}
-use Rattle.sets.specs.Sets.{has, nobody, everyone, only, ◌∪◌, ◌∖◌, within, smaller, size}
+use Rattle.sets.specs.Sets.{has, nobody, everyone, only, ◌∪◌, within, smaller, size}
 use Rattle.sets.specs.Listing.{some_set, sets_that}
 use Rattle.sets.proofs.Bools.{either, clash, and_parts, and_both, not-holds, bool_ext, fails}
 use Rattle.sets.proofs.Members.{In, Sub, ∪-left, ∪_right, ∪_cases, ∪-lt, ∖_in, ∖_out, none_in, only_in, only_out, everyone-lt, everyone-all, within-sub, sub_within}

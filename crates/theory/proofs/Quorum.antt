@@ -2,7 +2,7 @@
 -- nodes are counted out, as long as something of it is left. Only that satisfaction is monotone is used.
 use mathlib.Core.Path.{◌≡◌, refl, sym, ap, subst}
 use mathlib.Core.Bool.{Bool, true, false, not, ◌&&◌, ◌||◌}
-use mathlib.Core.Logic.{◌⊎◌, ⊎_elim}
+use mathlib.Core.Logic.{⊎_elim}
 use Prim.Native.Nat.{ℕ, ◌^◌, ◌<◌}
 use borrow.Author.Tests.{eqb-false, ne_eqb}
 use lib.Pow.{pow_pos}

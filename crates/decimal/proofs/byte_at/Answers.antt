@@ -1,5 +1,4 @@
 -- Past the end the text reads 0.
-use borrow.Author.Rules.{rules}
 use lib.ListN.{get_or-eq_default}
 use Rattle.decimal.proofs.byte_at.Goals as goal
 

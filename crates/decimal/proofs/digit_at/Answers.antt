@@ -1,5 +1,4 @@
 -- The byte's two tests are the definition's.
-use borrow.Author.Rules.{rules}
 use borrow.Author.Tests.{le-leb, lt-leb}
 use Rattle.decimal.specs.Decimal.{digit_of, digit_at}
 use Rattle.decimal.proofs.digit_at.Goals as goal

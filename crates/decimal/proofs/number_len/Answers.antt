@@ -1,10 +1,6 @@
 -- The digits counted so far and those of what is left make up the numeral's, one being counted from the start. A numeral has at most
 -- twenty digits, so the count fits.
 use native.Mathlib.Omega.{arith}
-use Prim.Native.Nat.{◌+◌}
-use mathlib.Core.Path.{◌≡◌}
-use lib.ListN.{length}
-use Rattle.decimal.specs.Decimal.{numeral}
 use Rattle.decimal.proofs.Numeral.{length_digit, length_tens, length_some, length_word}
 use Rattle.decimal.proofs.number_len.Goals as goal
 

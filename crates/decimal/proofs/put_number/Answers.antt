@@ -2,11 +2,10 @@
 -- the shorter numeral changes nothing of that. At the end one digit is left, and it is written at the front.
 use borrow.Author.Rules.{rules}
 use native.Mathlib.Omega.{arith}
-use Prim.Native.Nat.{ℕ, ◌+◌, ◌-◌, ◌/◌, ◌%◌, ◌≤◌, ◌<◌}
+use Prim.Native.Nat.{ℕ, ◌+◌, ◌-◌, ◌/◌, ◌%◌, ◌<◌}
 use mathlib.Core.Path.{◌≡◌, refl, ◌∙◌}
 use mathlib.Core.List.{List, []}
 use lib.ListN.{length, set, length-set}
-use Rattle.decimal.specs.Bytes.{at_front}
 use Rattle.decimal.specs.Decimal.{numeral}
 use Rattle.decimal.proofs.Numeral.{numeral_digit, numeral_tens, length_tens, length_some}
 use Rattle.decimal.proofs.Place.{front_set}

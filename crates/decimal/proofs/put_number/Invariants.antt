@@ -1,15 +1,11 @@
 -- At each turn the numeral of what is left, written at the front, gives what is promised: cutting a digit off and setting it right behind
 -- the shorter numeral changes nothing of that. At the end one digit is left, and it is written at the front.
-use borrow.Author.Rules.{rules}
-use native.Mathlib.Omega.{arith}
-use Prim.Native.Nat.{ℕ, ◌+◌, ◌-◌, ◌/◌, ◌%◌, ◌≤◌, ◌<◌}
-use mathlib.Core.Path.{◌≡◌, refl, ◌∙◌}
-use mathlib.Core.List.{List, []}
-use lib.ListN.{length, set, length-set}
+use Prim.Native.Nat.{ℕ, ◌≤◌}
+use mathlib.Core.Path.{◌≡◌}
+use mathlib.Core.List.{List}
+use lib.ListN.{length}
 use Rattle.decimal.specs.Bytes.{at_front}
 use Rattle.decimal.specs.Decimal.{numeral}
-use Rattle.decimal.proofs.Numeral.{numeral_digit, numeral_tens, length_tens, length_some}
-use Rattle.decimal.proofs.Place.{front_set}
 use Rattle.decimal.proofs.put_number.Given as goal
 
 -- what is left of the number takes the bytes before `at`

@@ -1,5 +1,4 @@
 -- The tests are those of what a node writes; a number takes at most twenty bytes, so the comma's fits.
-use borrow.Author.Rules.{rules}
 use native.Mathlib.Omega.{arith}
 use Rattle.decimal.proofs.Numeral.{length_word}
 use Rattle.members.proofs.Written.{id_out, id_last, length_more}

@@ -1,6 +1,5 @@
 -- What is counted and what the rest of the set takes make up the whole list: each turn moves one node from the one to the other. The whole
 -- takes at most 181 bytes, so the count fits.
-use borrow.Author.Rules.{rules}
 use native.Mathlib.Omega.{arith}
 use native.Mathlib.Nat.{zero-add}
 use Prim.Native.Nat.{◌+◌, ◌/◌}
@@ -8,7 +7,7 @@ use mathlib.Core.Path.{◌≡◌, ap, ◌∙◌}
 use lib.ListN.{length}
 use Rattle.members.specs.Members.{member_text}
 use Rattle.members.proofs.Written.{text_none, length-members}
-use Rattle.members.proofs.Walk.{Walk, ids_left, start, below_64, step, left-all, left_step, left-none}
+use Rattle.members.proofs.Walk.{ids_left, start, below_64, step, left-all, left_step, left-none}
 use Rattle.members.proofs.members_len.Goals as goal
 
 pub returns-then-m-eq0 : goal.returns-then-m-eq0

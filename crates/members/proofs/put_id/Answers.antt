@@ -1,5 +1,4 @@
 -- The id is written at the front and the comma right behind it, which is the same as writing both at once.
-use borrow.Author.Rules.{rules}
 use native.Mathlib.Omega.{arith}
 use Prim.Native.Nat.{◌<◌}
 use mathlib.Core.Path.{refl}

@@ -1,6 +1,5 @@
 -- At each place the text of what is left, written there, gives what is promised: writing one node and going on behind it changes nothing
 -- of that. At the end nothing is left.
-use borrow.Author.Rules.{rules}
 use native.Mathlib.Omega.{arith}
 use native.Mathlib.Nat.{zero-add}
 use Prim.Native.Nat.{ℕ, ◌+◌, ◌-◌, ◌/◌, ◌^◌, ◌≤◌, ◌<◌}
@@ -13,7 +12,7 @@ use Rattle.decimal.proofs.Place.{at_place, length_place, lent, place_place, set_
 use Rattle.members.specs.Members.{member_text}
 use Rattle.members.specs.Steps.{id_text}
 use Rattle.members.proofs.Written.{text_none}
-use Rattle.members.proofs.Walk.{Walk, ids_left, start, below_64, step, left-all, left_split, left_step, left_nothing}
+use Rattle.members.proofs.Walk.{ids_left, start, below_64, step, left-all, left_split, left_step, left_nothing}
 use Rattle.members.proofs.put_members.Invariants.{Left}
 use Rattle.members.proofs.put_members.Goals as goal
 

@@ -1,19 +1,13 @@
 -- At each place the text of what is left, written there, gives what is promised: writing one node and going on behind it changes nothing
 -- of that. At the end nothing is left.
-use borrow.Author.Rules.{rules}
-use native.Mathlib.Omega.{arith}
-use native.Mathlib.Nat.{zero-add}
-use Prim.Native.Nat.{ℕ, ◌+◌, ◌-◌, ◌/◌, ◌^◌, ◌≤◌, ◌<◌}
-use mathlib.Core.Path.{◌≡◌, refl, ap, sym, ◌∙◌}
-use mathlib.Core.List.{List, []}
-use lib.ListN.{length, take, drop, length-drop, take-append-drop}
-use Rattle.decimal.specs.Bytes.{at_front, Written}
-use Rattle.decimal.proofs.Order.{rest}
-use Rattle.decimal.proofs.Place.{at_place, length_place, lent, place_place, set_place}
+use Prim.Native.Nat.{ℕ, ◌+◌, ◌≤◌}
+use mathlib.Core.Path.{◌≡◌}
+use mathlib.Core.List.{List}
+use lib.ListN.{length}
+use Rattle.decimal.specs.Bytes.{at_front}
+use Rattle.decimal.proofs.Place.{at_place}
 use Rattle.members.specs.Members.{member_text}
-use Rattle.members.specs.Steps.{id_text}
-use Rattle.members.proofs.Written.{text_none}
-use Rattle.members.proofs.Walk.{Walk, ids_left, start, below_64, step, left-all, left_split, left_step, left_nothing}
+use Rattle.members.proofs.Walk.{Walk, ids_left}
 use Rattle.members.proofs.put_members.Given as goal
 
 pub record Left (out₀ : List ℕ) (m : ℕ) (out : List ℕ) (i q at : ℕ) : Type 0 where

@@ -1,5 +1,4 @@
 -- Each return is one case of the definition: the number that was read, its two bounds, and the byte behind it.
-use borrow.Author.Rules.{rules}
 use borrow.Author.Tests.{lt-ltb, le-ltb, eq-eqb, ne_eqb}
 use native.Mathlib.Omega.{arith}
 use mathlib.Core.Path.{◌≡◌, sym, ◌∙◌}

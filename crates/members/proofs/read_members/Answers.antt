@@ -1,5 +1,4 @@
 -- A hyphen is the whole list; any other list is its ids.
-use borrow.Author.Rules.{rules}
 use borrow.Author.Tests.{eq-eqb, ne_eqb}
 use Rattle.members.specs.Members.{read_members}
 use Rattle.members.proofs.read_members.Goals as goal

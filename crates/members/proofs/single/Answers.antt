@@ -1,5 +1,4 @@
 -- A 1 shifted by less than 64 loses nothing.
-use borrow.Author.Rules.{rules}
 use native.Mathlib.Nat.{one-mul, mod-eq_of_lt}
 use lib.Pow.{pow-lt}
 use Rattle.members.proofs.single.Goals as goal

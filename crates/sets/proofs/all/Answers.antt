@@ -5,7 +5,6 @@ use native.Mathlib.Omega.{arith}
 use lib.Pow.{pow_pos}
 use Rattle.sets.specs.Sets.{everyone}
 use Rattle.sets.proofs.Words.{shl_one}
-use borrow.Author.Rules.{rules}
 use Rattle.sets.proofs.all.Goals as goal
 
 pub returns-then-n-eq64 : goal.returns-then-n-eq64

@@ -1,7 +1,6 @@
 -- Bit i of m, as the definition reads it.
 use Rattle.sets.specs.Sets.{has}
 use mathlib.Core.Path.{refl}
-use borrow.Author.Rules.{rules}
 use Rattle.sets.proofs.contains.Goals as goal
 
 pub returns : goal.returns

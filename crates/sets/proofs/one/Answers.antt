@@ -1,6 +1,5 @@
 -- Below 64 the shift loses nothing.
 use Rattle.sets.proofs.Words.{shl_one}
-use borrow.Author.Rules.{rules}
 use Rattle.sets.proofs.one.Goals as goal
 
 pub returns : goal.returns

@@ -1,12 +1,11 @@
 -- The nodes found are those that the records passed open: a record at level 0 is the head of the node that those before it number.
 use mathlib.Core.Path.{◌≡◌, refl, sym, ap, ◌∙◌}
-use mathlib.Core.Logic.{⊎_elim}
-use Prim.Native.Nat.{suc, ◌-◌, ◌<◌, ◌≤◌}
+use Prim.Native.Nat.{suc, ◌<◌}
 use native.Mathlib.Numerals.{add-one}
 use native.Mathlib.Omega.{arith}
 use lib.ListN.{length, length-set}
 use Rattle.meanings.specs.Table.{records, nodes, level}
-use Rattle.tables.specs.Heads.{heads_before, HeadsTo}
+use Rattle.tables.specs.Heads.{heads_before}
 use Rattle.tables.proofs.Heads.{before_first, before-all, before-le, head_node, head_step, inner_step, one_head}
 use Rattle.tables.proofs.Sound.{record_in, sound_table}
 use Rattle.tables.proofs.find_heads.Goals.{then-level-eq0, else-level-eq0}
@@ -62,18 +61,18 @@ loop-r-preserved c =
     let i = c.loop-r.invariant in
     let e = c.level.ensures.0 in
     elim c.if-level-eq0.branch [
-      then-level-eq0 w ↦
-        let opens : level T r ≡ 0 = sym e ∙ w.if-level-eq0.true in
-        let h = head_node T r c.loop-r-test.true opens in
-        let n = (sound_table T c.requires.0).nodes-le in
-        let room : c.loop-r.v < length c.loop-r.heads = omega (arith, c.requires.1, i.1, i.2) in (
-          omega arith,
-          w.v-is ∙ add-one c.loop-r.v ∙ ap suc i.1 ∙ sym (head_step T r opens),
-          ap length w.heads-is ∙ length-set c.loop-r.heads c.loop-r.v r ∙ i.2,
-          rw (w.heads-is, w.v-is) (one_head T c.loop-r.heads c.loop-r.v r room c.loop-r-test.true opens i.1 i.3),
-        )
-    | else-level-eq0 w ↦
-        (omega arith, w.v-is ∙ i.1 ∙ sym (inner_step T r (λ q. w.if-level-eq0.false (e ∙ q))), ap length w.heads-is ∙ i.2, rw (w.heads-is, w.v-is) i.3)
+      | then-level-eq0 w ↦
+          let opens : level T r ≡ 0 = sym e ∙ w.if-level-eq0.true in
+          let h = head_node T r c.loop-r-test.true opens in
+          let n = (sound_table T c.requires.0).nodes-le in
+          let room : c.loop-r.v < length c.loop-r.heads = omega (arith, c.requires.1, i.1, i.2) in (
+            omega arith,
+            w.v-is ∙ add-one c.loop-r.v ∙ ap suc i.1 ∙ sym (head_step T r opens),
+            ap length w.heads-is ∙ length-set c.loop-r.heads c.loop-r.v r ∙ i.2,
+            rw (w.heads-is, w.v-is) (one_head T c.loop-r.heads c.loop-r.v r room c.loop-r-test.true opens i.1 i.3),
+          )
+      | else-level-eq0 w ↦
+          (omega arith, w.v-is ∙ i.1 ∙ sym (inner_step T r (λ q. w.if-level-eq0.false (e ∙ q))), ap length w.heads-is ∙ i.2, rw (w.heads-is, w.v-is) i.3)
     ]
 
 pub shape_of-heads : goal.shape_of-heads

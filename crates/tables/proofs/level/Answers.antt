@@ -3,7 +3,6 @@ use mathlib.Core.Path.{refl}
 use Prim.Native.Nat.{◌*◌}
 use native.Mathlib.Omega.{arith}
 use Rattle.meanings.specs.Table.{control, level}
-use borrow.Author.Rules.{rules}
 use Rattle.tables.proofs.level.Goals as goal
 
 pub returns : goal.returns

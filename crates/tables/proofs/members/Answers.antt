@@ -5,7 +5,6 @@ use native.Mathlib.Numerals.{add-one}
 use native.Mathlib.Omega.{arith}
 use lib.ListN.{get_or}
 use Rattle.meanings.specs.Table.{members}
-use borrow.Author.Rules.{rules}
 use Rattle.tables.proofs.members.Goals as goal
 
 pub returns : goal.returns
