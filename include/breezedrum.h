@@ -7,7 +7,7 @@
  *
  * Arguments come in one order: inputs (pointer, then length), then sets and numbers, then the allowance, then the lent buffer and its room.
  *
- * To build: `rt staticlib interface` proves the library and writes target/staticlib/libinterface.a, for x86-64 Linux. It needs nothing but memcpy
+ * To build: `tools/build` proves the library and writes target/staticlib/libinterface.a, for x86-64 Linux. It needs nothing but memcpy
  * and memset, which every C library has:
  *
  *   gcc -Iinclude -o target/yours yours.c target/staticlib/libinterface.a

@@ -1,4 +1,4 @@
-//! Breezedrum from Rust: safe functions over the static library (`rt staticlib interface`). Every function takes any input; an answer is a
+//! Breezedrum from Rust: safe functions over the static library (`tools/build`). Every function takes any input; an answer is a
 //! `Reply`, the number (SPECIFICATION 7) and its fields, 0 where the number does not name a field. A number above 0 leaves every lent
 //! buffer as it was. A record of two words 0 that has no inner sets is an archive whose sheet is unknown: a node that no set satisfies.
 

@@ -1,4 +1,4 @@
-// rt staticlib interface && rustc -O -o target/example rust/example.rs -L native=target/staticlib -l static=interface && target/example samples/pairs.sheet
+// tools/build && rustc -O -o target/example rust/example.rs -L native=target/staticlib -l static=interface && target/example samples/pairs.sheet
 #[allow(dead_code)]
 mod breezedrum;
 

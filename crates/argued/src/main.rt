@@ -1,6 +1,6 @@
+// The report program, run with an argument: nothing is read and nothing reported.
 #![tactic(auto)]
 
-// The report program, run with an argument: nothing is read and nothing reported.
-fn main() {
-    command::run();
+fn main(rt: HostRuntime) {
+    command::run(&rt, &mut rt.stdin(), &mut rt.stdout());
 }

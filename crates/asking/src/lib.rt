@@ -1,4 +1,4 @@
-// Asks every public operation the stored questions of standard input, and prints what came back.
+// Asks every public operation the stored questions of an input, and prints what came back.
 //
 // A case is the operation (1 byte), two numbers (8 bytes each), the room lent (2 bytes), the length of what follows (2 bytes) and that
 // many bytes: a sheet, or the words of a table at 8 bytes each. Numbers stand lowest byte first. The line of a case has the eleven fields
@@ -6,9 +6,9 @@
 // lent buffer would be printed too.
 #![tactic(auto)]
 
-use libc::{STDIN_FILENO, STDOUT_FILENO};
 use replies::Reply;
-use std::num::wrapping_add_usize;
+use std::io;
+use std::io::{Read, Write};
 
 // What a lent list holds, and a lent text.
 const BLANK_WORD: u64 = 0xA5A5A5A5A5A5A5A5;
@@ -27,255 +27,269 @@ fn byte(s: &[u8], at: usize) -> u64 {
 
 // The number of two bytes.
 fn two(s: &[u8], at: usize) -> u64 {
-    byte(s, at) | byte(s, wrapping_add_usize(at, 1)) << 8
+    byte(s, at) | byte(s, at.wrapping_add(1)) << 8
 }
 
 // The number of four bytes.
 fn four(s: &[u8], at: usize) -> u64 {
-    two(s, at) | two(s, wrapping_add_usize(at, 2)) << 16
+    two(s, at) | two(s, at.wrapping_add(2)) << 16
 }
 
 // The number of eight bytes.
 fn eight(s: &[u8], at: usize) -> u64 {
-    four(s, at) | four(s, wrapping_add_usize(at, 4)) << 32
+    four(s, at) | four(s, at.wrapping_add(4)) << 32
 }
 
 // Reads words of eight bytes.
 fn load(s: &[u8], words: &mut [u64; 520]) {
-    let mut at = 0;
-    let mut i = 0;
-    while i < 520 {
-        words[i] = eight(s, at);
-        at = wrapping_add_usize(at, 8);
-        i += 1;
+    let mut at: usize = 0;
+    for word in words.iter_mut() {
+        *word = eight(s, at);
+        at = at.wrapping_add(8);
     }
 }
 
 // Writes a tab and a number.
-fn put(x: u64) {
-    io::write_all(STDOUT_FILENO, b"\t");
-    io::print_decimal(STDOUT_FILENO, x);
+fn put<W: Write>(out: &mut W, x: u64) -> io::Result<()> {
+    write!(out, "\t{x}")
 }
 
 // Writes the fields of a reply.
-fn put_reply(r: Reply) {
-    io::print_decimal(STDOUT_FILENO, r.number);
-    put(r.place);
-    put(r.nodes);
-    put(r.records);
-    put(r.answer);
-    put(r.set);
-    put(r.rounds);
-    put(r.first);
-    put(r.second);
-    put(r.count);
-    put(r.visits);
+fn put_reply<W: Write>(out: &mut W, r: &Reply) -> io::Result<()> {
+    let number = r.number;
+    write!(out, "{number}")?;
+    put(out, r.place)?;
+    put(out, r.nodes)?;
+    put(out, r.records)?;
+    put(out, r.answer)?;
+    put(out, r.set)?;
+    put(out, r.rounds)?;
+    put(out, r.first)?;
+    put(out, r.second)?;
+    put(out, r.count)?;
+    put(out, r.visits)
 }
 
 // Ends a line.
-fn end_line() {
-    io::write_all(STDOUT_FILENO, b"\n");
+fn end_line<W: Write>(out: &mut W) -> io::Result<()> {
+    out.write_all(b"\n")
 }
 
 // How much of a lent buffer a reply claims.
-fn claimed(r: Reply) -> u64 {
+fn claimed(r: &Reply) -> u64 {
     if r.number == 0 { r.count } else { 0 }
 }
 
 // Writes the first words of a list, and any other that is not as it was lent.
-fn put_words(list: &[u64; 520], count: u64) {
-    let mut i = 0;
-    while i < 520 {
-        let word = list[i];
-        if (i as u64) < count || word != BLANK_WORD {
-            put(word);
+fn put_words<W: Write>(out: &mut W, list: &[u64; 520], count: u64) -> io::Result<()> {
+    for (i, word) in list.iter().enumerate() {
+        if (i as u64) < count || *word != BLANK_WORD {
+            put(out, *word)?;
         }
-        i += 1;
     }
-}
-
-// Writes a byte.
-fn put_byte(x: u8) {
-    let one = [x];
-    io::write_all(STDOUT_FILENO, &one);
+    Ok(())
 }
 
 // Writes the first bytes of a text, and any other that is not as it was lent.
-fn put_bytes(text: &[u8; 4096], count: u64) {
-    let mut i = 0;
-    while i < 4096 {
-        let x = text[i];
-        if (i as u64) < count || x != BLANK_BYTE {
-            put_byte(x);
+fn put_bytes<W: Write>(out: &mut W, text: &[u8; 4096], count: u64) -> io::Result<()> {
+    for (i, byte) in text.iter().enumerate() {
+        if (i as u64) < count || *byte != BLANK_BYTE {
+            out.write_all(&[*byte])?;
         }
-        i += 1;
     }
+    Ok(())
 }
 
 // The line of a list.
-fn put_list(r: Reply, list: &[u64; 520]) {
-    put_reply(r);
-    put_words(list, claimed(r));
-    end_line();
+fn put_list<W: Write>(out: &mut W, r: &Reply, list: &[u64; 520]) -> io::Result<()> {
+    put_reply(out, r)?;
+    put_words(out, list, claimed(r))?;
+    end_line(out)
 }
 
 // The line of a text, and the text.
-fn put_text(r: Reply, text: &[u8; 4096]) {
-    put_reply(r);
-    end_line();
-    put_bytes(text, claimed(r));
+fn put_text<W: Write>(out: &mut W, r: &Reply, text: &[u8; 4096]) -> io::Result<()> {
+    put_reply(out, r)?;
+    end_line(out)?;
+    put_bytes(out, text, claimed(r))
 }
 
 // A question that writes nothing.
-fn plain(op: u64, table: &[u64], a: u64, b: u64) {
-    match op {
-        0 => put_reply(interface::breezedrum_check(table)),
-        3 => put_reply(interface::breezedrum_quorum(table, a, b)),
-        4 => put_reply(interface::breezedrum_greatest(table, a, b)),
-        5 => put_reply(interface::breezedrum_blocks(table, a, b)),
-        6 => put_reply(interface::breezedrum_verdict(table, a, b)),
-        _ => put_reply(interface::breezedrum_intact(table, a, b)),
-    }
-    end_line();
+fn plain<W: Write>(out: &mut W, op: u64, table: &[u64], a: u64, b: u64) -> io::Result<()> {
+    let r = match op {
+        0 => interface::breezedrum_check(table),
+        3 => interface::breezedrum_quorum(table, a, b),
+        4 => interface::breezedrum_greatest(table, a, b),
+        5 => interface::breezedrum_blocks(table, a, b),
+        6 => interface::breezedrum_verdict(table, a, b),
+        _ => interface::breezedrum_intact(table, a, b),
+    };
+    put_reply(out, &r)?;
+    end_line(out)
 }
 
 // The minimal quorums, with a list lent.
-fn minimal(table: &[u64], allowance: u64, room: usize) {
+fn minimal<W: Write>(out: &mut W, table: &[u64], allowance: u64, room: usize) -> io::Result<()> {
     if room > 520 {
-        return;
+        return Ok(());
     }
-    let from = 0;
     let mut list = [BLANK_WORD; 520];
-    let r = interface::breezedrum_minimal(table, allowance, &mut list[from..room]);
-    put_list(r, &list);
+    let r = interface::breezedrum_minimal(table, allowance, &mut list[..room]);
+    put_list(out, &r, &list)
 }
 
 // The minimal blocking sets, with a list lent.
-fn blocking(table: &[u64], allowance: u64, room: usize) {
+fn blocking<W: Write>(out: &mut W, table: &[u64], allowance: u64, room: usize) -> io::Result<()> {
     if room > 520 {
-        return;
+        return Ok(());
     }
-    let from = 0;
     let mut list = [BLANK_WORD; 520];
-    let r = interface::breezedrum_blocking(table, allowance, &mut list[from..room]);
-    put_list(r, &list);
+    let r = interface::breezedrum_blocking(table, allowance, &mut list[..room]);
+    put_list(out, &r, &list)
 }
 
 // A sheet, with a list lent.
-fn read(sheet: &[u8], room: usize) {
+fn read<W: Write>(out: &mut W, sheet: &[u8], room: usize) -> io::Result<()> {
     if room > 520 {
-        return;
+        return Ok(());
     }
-    let from = 0;
     let mut list = [BLANK_WORD; 520];
-    let r = interface::breezedrum_read_sheet(sheet, &mut list[from..room]);
-    put_list(r, &list);
+    let r = interface::breezedrum_read_sheet(sheet, &mut list[..room]);
+    put_list(out, &r, &list)
 }
 
 // A table to be written as a sheet, with a buffer lent.
-fn write(table: &[u64], room: usize) {
+fn write<W: Write>(out: &mut W, table: &[u64], room: usize) -> io::Result<()> {
     if room > 4096 {
-        return;
+        return Ok(());
     }
-    let from = 0;
     let mut text = [BLANK_BYTE; 4096];
-    let r = interface::breezedrum_write_sheet(table, &mut text[from..room]);
-    put_text(r, &text);
+    let r = interface::breezedrum_write_sheet(table, &mut text[..room]);
+    put_text(out, &r, &text)
 }
 
 // The report on a sheet, with a buffer lent.
-fn report(sheet: &[u8], room: usize) {
+fn report<W: Write>(out: &mut W, sheet: &[u8], room: usize) -> io::Result<()> {
     if room > 4096 {
-        return;
+        return Ok(());
     }
-    let from = 0;
     let mut text = [BLANK_BYTE; 4096];
-    let r = interface::breezedrum_report(sheet, &mut text[from..room]);
-    put_text(r, &text);
+    let r = interface::breezedrum_report(sheet, &mut text[..room]);
+    put_text(out, &r, &text)
 }
 
 // A question on a table.
-fn ask(op: u64, table: &[u64], a: u64, b: u64, room: usize) {
+fn ask<W: Write>(
+    out: &mut W,
+    op: u64,
+    table: &[u64],
+    a: u64,
+    b: u64,
+    room: usize,
+) -> io::Result<()> {
     match op {
-        2 => write(table, room),
-        7 => minimal(table, a, room),
-        8 => blocking(table, a, room),
-        _ => plain(op, table, a, b),
+        2 => write(out, table, room),
+        7 => minimal(out, table, a, room),
+        8 => blocking(out, table, a, room),
+        _ => plain(out, op, table, a, b),
     }
 }
 
 // A question on the first words of a list.
-fn ask_first(op: u64, words: &[u64; 520], count: usize, a: u64, b: u64, room: usize) {
-    if count <= 520 {
-        let from = 0;
-        let whole = &words[..];
-        ask(op, &whole[from..count], a, b, room);
+fn ask_first<W: Write>(
+    out: &mut W,
+    op: u64,
+    words: &[u64; 520],
+    count: usize,
+    a: u64,
+    b: u64,
+    room: usize,
+) -> io::Result<()> {
+    if count > 520 {
+        return Ok(());
     }
+    ask(out, op, &words[..count], a, b, room)
 }
 
 // A question on the words that the bytes spell.
-fn ask_words(op: u64, payload: &[u8], a: u64, b: u64, room: usize) {
+fn ask_words<W: Write>(
+    out: &mut W,
+    op: u64,
+    payload: &[u8],
+    a: u64,
+    b: u64,
+    room: usize,
+) -> io::Result<()> {
     let mut words = [0u64; 520];
     load(payload, &mut words);
-    ask_first(op, &words, payload.len() / 8, a, b, room);
+    ask_first(out, op, &words, payload.len() / 8, a, b, room)
 }
 
 // A case in its parts.
-fn run(op: u64, payload: &[u8], a: u64, b: u64, room: usize) {
+fn run<W: Write>(
+    out: &mut W,
+    op: u64,
+    payload: &[u8],
+    a: u64,
+    b: u64,
+    room: usize,
+) -> io::Result<()> {
     match op {
-        1 => read(payload, room),
-        10 => report(payload, room),
-        _ => ask_words(op, payload, a, b, room),
+        1 => read(out, payload, room),
+        10 => report(out, payload, room),
+        _ => ask_words(out, op, payload, a, b, room),
     }
 }
 
 // The case at the start of the bytes: how many it takes, or all where they are no case.
-fn case(s: &[u8]) -> usize {
+fn case<W: Write>(out: &mut W, s: &[u8]) -> io::Result<usize> {
     let all = s.len();
     if all < 21 {
-        return all;
+        return Ok(all);
     }
     let op = byte(s, 0);
     if op > 10 {
-        return all;
+        return Ok(all);
     }
     let length = two(s, 19) as usize;
     if length > all - 21 {
-        return all;
+        return Ok(all);
     }
     let end = 21 + length;
+    let payload = &s[21..end];
     run(
+        out,
         op,
-        &s[21..end],
+        payload,
         eight(s, 1),
         eight(s, 9),
         two(s, 17) as usize,
-    );
-    end
+    )?;
+    Ok(end)
 }
 
 // The case at a place, and the place after it.
-fn step(s: &[u8], at: usize) -> usize {
+fn step<W: Write>(out: &mut W, s: &[u8], at: usize) -> io::Result<usize> {
     if at < s.len() {
-        wrapping_add_usize(at, case(&s[at..]))
+        let taken = case(out, &s[at..])?;
+        Ok(at.wrapping_add(taken))
     } else {
-        at
+        Ok(at)
     }
 }
 
 // All cases: each takes 21 bytes or more of 65,536.
-fn all_cases(s: &[u8]) {
+fn all_cases<W: Write>(out: &mut W, s: &[u8]) -> io::Result<()> {
     let mut at = 0;
-    let mut left: u64 = 4096;
-    while left > 0 {
-        at = step(s, at);
-        left -= 1;
+    for _ in 0..4096 {
+        at = step(out, s, at)?;
     }
+    Ok(())
 }
 
-// The stored questions of standard input, asked in turn.
-pub fn ask_all() {
-    let mut buf = io::large_buffer();
-    let n = io::read_full(STDIN_FILENO, &mut buf);
-    all_cases(&buf[..n]);
+// The stored questions of the input, the first 65,536 bytes, asked in turn.
+pub fn ask_all<R: Read, W: Write>(from: &mut R, out: &mut W) -> io::Result<()> {
+    let mut bytes = [0u8; 65536];
+    let count = input::read_all(from, &mut bytes)?;
+    all_cases(out, &bytes[..count])
 }

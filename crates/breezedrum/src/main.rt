@@ -1,6 +1,6 @@
+// The report on the sheet that standard input holds. Its stored run is the longest good sheet.
 #![tactic(auto)]
 
-// The report on the sheet that standard input holds. Its stored run is the longest good sheet.
-fn main() {
-    command::run();
+fn main(rt: HostRuntime) {
+    command::run(&rt, &mut rt.stdin(), &mut rt.stdout());
 }

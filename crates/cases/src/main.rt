@@ -1,6 +1,8 @@
+// Stored questions of every kind.
 #![tactic(auto)]
 
-// Stored questions of every kind.
-fn main() {
-    asking::ask_all();
+use std::io;
+
+fn main(rt: HostRuntime) -> io::Result<()> {
+    asking::ask_all(&mut rt.stdin(), &mut rt.stdout())
 }

@@ -2,26 +2,31 @@
 // program has one run in the gate.
 #![tactic(auto)]
 
-use intake::Taken;
-use libc::STDERR_FILENO;
-use printing::Shown;
+use std::env::{Env, FillError};
+use std::io::{Read, Write};
 
-// The report on the sheet that standard input holds. Of half a sheet nothing may be answered, so where a read fails there is a line on
+// Is there an argument, behind the program's name?
+fn has_argument(rt: &impl Env) -> bool {
+    !matches!(rt.arg(1, &mut []), Err(FillError::NotPresent))
+}
+
+// The report on the sheet that the input holds. Of half a sheet nothing may be answered, so where a read fails there is a line on
 // standard error and no report; a write that fails ends the report, and is told there too. An argument is not a sheet.
-pub fn run() {
-    if os::arg_count() > 1 {
-        io::write_all(STDERR_FILENO, b"usage: breezedrum < SHEET\n");
+pub fn run<R: Read, W: Write>(rt: &(impl Env + Eprint), from: &mut R, out: &mut W) {
+    if has_argument(rt) {
+        let _ = eprintln!(rt; "usage: breezedrum < SHEET");
         return;
     }
     let mut words = [0u64; 512];
-    let taken = intake::take(&mut words);
-    let Taken::Sheet(read) = taken else {
-        os::fail(b"breezedrum: standard input");
-        return;
+    let read = match intake::take(from, &mut words) {
+        Ok(read) => read,
+        Err(error) => {
+            let _ = eprintln!(rt; "breezedrum: standard input: {error}");
+            return;
+        }
     };
-    let shown = printing::show_read(read, &words);
-    let Shown::Up { to: _ } = shown else {
-        os::fail(b"breezedrum: standard output");
-        return;
-    };
+    let shown = printing::show_read(out, read, &words);
+    if let Err(error) = shown {
+        let _ = eprintln!(rt; "breezedrum: standard output: {error}");
+    }
 }

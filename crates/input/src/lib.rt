@@ -7,66 +7,58 @@
 ghost use Rattle.std.specs.Prelude.{length};
 ghost use Rattle.input.specs.Reading.{Goes, Means, Within};
 
-// All that was read: the first bytes of the buffer. `Failed` leaves errno as the failed read set it.
-#[derive(Drop)]
-pub enum Got {
-    Bytes { count: usize },
-    Failed,
-}
+use std::io;
+use std::io::{ErrorKind, Read};
 
-// What one read came to.
+// What one read came to. `Failed` has the error of the failed read.
 #[derive(Drop)]
 enum Step {
     More { count: usize },
     End,
     Interrupted,
-    Failed,
+    Failed { error: io::Error },
 }
 
-// What the answer of a read means, with errno beside it: a failure is never the end. One that a signal interrupted may be tried again,
-// while tries are left.
-fn step_of(got: isize, error: i32, tries: usize) -> Step
-    ensures { Means result got error tries }
+// What the answer of a read means: a failure is never the end. One that a signal interrupted may be tried again, while tries are left.
+fn step_of(answer: io::Result<usize>, tries: usize) -> Step
+    ensures { Means result answer tries }
 {
-    if got > 0 {
-        return Step::More {
-            count: got as usize,
-        };
+    match answer {
+        Ok(0) => Step::End,
+        Ok(count) => Step::More { count },
+        Err(error) => {
+            if tries == 0 {
+                return Step::Failed { error };
+            }
+            if error.kind() == ErrorKind::Interrupted {
+                return Step::Interrupted;
+            }
+            Step::Failed { error }
+        }
     }
-    if got == 0 {
-        return Step::End;
-    }
-    if tries == 0 {
-        return Step::Failed;
-    }
-    if error == libc::EINTR {
-        return Step::Interrupted;
-    }
-    Step::Failed
 }
 
 // One read into the rest of the buffer.
-fn read_some(fd: i32, rest: &mut [u8], tries: usize) -> Step
+fn read_some<R: Read>(from: &mut R, rest: &mut [u8], tries: usize) -> Step
     ensures { Goes result (length rest.old) tries }
 {
-    let got = libc::read(fd, rest);
-    step_of(got, os::errno(), tries)
+    step_of(from.read(rest), tries)
 }
 
-// Reads until the buffer is full or a read answers that the input ends. Interrupted reads are tried again a thousand times in all, so
-// that it ends whatever the system does.
-pub fn read_all(fd: i32, buf: &mut [u8]) -> Got
+// Reads until the buffer is full or a read answers that the input ends: all that was read are the first bytes of the buffer, or it is the
+// error of the failed read. Interrupted reads are tried again a thousand times in all, so that it ends whatever the system does.
+pub fn read_all<R: Read>(from: &mut R, buf: &mut [u8]) -> io::Result<usize>
     ensures { Within result buf.new }
 {
     let mut at = 0;
     let mut tries = 1000;
     while at < buf.len() {
-        match read_some(fd, &mut buf[at..], tries) {
+        match read_some(from, &mut buf[at..], tries) {
             Step::More { count } => at += count,
-            Step::End => return Got::Bytes { count: at },
+            Step::End => return Ok(at),
             Step::Interrupted => tries -= 1,
-            Step::Failed => return Got::Failed,
+            Step::Failed { error } => return Err(error),
         }
     }
-    Got::Bytes { count: at }
+    Ok(at)
 }

@@ -1,35 +1,30 @@
 -- A sheet is read as it comes in, through a window of 512 bytes. Which bytes the system hands over, and that all of them are asked for, no contract
 -- can say. What is promised: what a read's answer is taken to mean, that no byte in hand is lost, that the lines in hand are taken one behind the
 -- other, and that none is judged that bytes behind it could alter, unless the input is said to have ended.
-use Rattle.std.specs.Prelude.{ℕ, ◌+◌, ◌-◌, ◌*◌, ◌≤◌, ◌≡◌, Bool, true, false, List, [], ◌++◌, ltb, length, take}
-use Rattle.input.specs.declared.Got.{Got}
-use Rattle.input.specs.declared.Got.TheVariants as Gx
+use Rattle.std.specs.Prelude.{ℕ, ◌+◌, ◌-◌, ◌*◌, ◌≤◌, ◌≡◌, Bool, true, false, List, [], ◌++◌, ltb, length, take, Result, Ok, Err}
+use Rattle.std.specs.declared.io.Error.{Error}
 use Rattle.answers.specs.Said.{read_says}
 use Rattle.answers.specs.declared.Read.{Read}
 use Rattle.answers.specs.declared.Read.TheVariants as Rx
 use Rattle.sheets.specs.Sheets.{take_lines, sheet_lines, before, read_reply, read_puts}
 use Rattle.sheets.specs.Promises.{Takes}
 use Rattle.intake.specs.declared.Window.{Window}
-use Rattle.intake.specs.declared.Window.TheVariants as Wx
 use Rattle.intake.specs.declared.Heard.{Heard}
-use Rattle.intake.specs.declared.Heard.TheVariants as Hx
-use Rattle.intake.specs.declared.Taken.{Taken}
-use Rattle.intake.specs.declared.Taken.TheVariants as Tx
 
 -- what is read behind so many bytes has room in the window, and what it comes to: a window that was not filled is the last
-unfoldable pub FitsIn : (len : ℕ) → Got → Type 0
-FitsIn len (Gx.Bytes count) = len + count ≤ 512
-FitsIn len Gx.Failed = Unit {0}
+unfoldable pub FitsIn : (len : ℕ) → Result ℕ Error → Type 0
+FitsIn len (Ok count) = len + count ≤ 512
+FitsIn len (Err error) = Unit {0}
 
-unfoldable pub filled_is : (len : ℕ) → Got → Window
-filled_is len (Gx.Bytes count) = Wx.Bytes (len + count) (ltb (len + count) 512)
-filled_is len Gx.Failed = Wx.Failed
+unfoldable pub filled_is : (len : ℕ) → Result ℕ Error → Result Window Error
+filled_is len (Ok count) = Ok (record { count = len + count; ended = ltb (len + count) 512 })
+filled_is len (Err error) = Err error
 
 -- The first bytes of the window are kept, and more may stand behind them: as many as the longest line has, unless the input is said to
 -- have ended.
-unfoldable pub Widens : (len : ℕ) (before after : List ℕ) → Window → Type 0
-Widens len b a (Wx.Bytes n ended) = (len ≤ n) × (n ≤ 512) × (length a ≡ 512) × (take len a ≡ take len b) × (ended ≡ false → 188 ≤ n)
-Widens len b a Wx.Failed = Unit {0}
+unfoldable pub Widens : (len : ℕ) (before after : List ℕ) → Result Window Error → Type 0
+Widens len b a (Ok w) = (len ≤ w.count) × (w.count ≤ 512) × (length a ≡ 512) × (take len a ≡ take len b) × (w.ended ≡ false → 188 ≤ w.count)
+Widens len b a (Err error) = Unit {0}
 
 -- The records of the lines before a window stand at the front of o, and the lines from the window on are still to be taken, whatever follows it. The
 -- first of those before whose threshold is a written 0 is `nought`.
@@ -42,9 +37,9 @@ pub record Lines (o : List ℕ) (r : Read) (nought : ℕ) (ended : Bool) : Type 
   pub sheet : List ℕ
   pub takes : (rest : List ℕ) → (ended ≡ true → rest ≡ []) → Takes (sheet_lines (sheet ++ rest)) o r nought
 
-unfoldable pub Hears : (after : List ℕ) → Heard → Type 0
-Hears a (Hx.Told r nought ended bytes) = Lines a r nought ended
-Hears a Hx.Failed = Unit {0}
+unfoldable pub Hears : (after : List ℕ) → Result Heard Error → Type 0
+Hears a (Ok h) = Lines a h.read h.nought h.ended
+Hears a (Err error) = Unit {0}
 
 -- The answer to reading some sheet, whose words stand at the front where it is good.
 pub record WasRead (r : Read) (table : List ℕ) : Type 0 where
@@ -52,6 +47,6 @@ pub record WasRead (r : Read) (table : List ℕ) : Type 0 where
   pub says : read_says r ≡ read_reply sheet 512
   pub puts : (count : ℕ) → r ≡ Rx.Words count → (take count table ≡ read_puts sheet) × (count ≤ length table)
 
-unfoldable pub TakesIn : (after : List ℕ) → Taken → Type 0
-TakesIn a (Tx.Sheet r) = WasRead r a
-TakesIn a Tx.Failed = Unit {0}
+unfoldable pub TakesIn : (after : List ℕ) → Result Read Error → Type 0
+TakesIn a (Ok r) = WasRead r a
+TakesIn a (Err error) = Unit {0}

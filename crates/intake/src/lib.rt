@@ -1,4 +1,4 @@
-// Reading a sheet from standard input as it comes in. Only a window of it is held, so that little stack is taken: a line has at most 188 bytes,
+// Reading a sheet from an input as it comes in. Only a window of it is held, so that little stack is taken: a line has at most 188 bytes,
 // and its record is two words.
 #![tactic(auto)]
 
@@ -6,56 +6,47 @@ ghost use Rattle.std.specs.Prelude.{◌≡◌, ◌-◌, ◌≤◌, ◌<◌, leng
 ghost use Rattle.intake.specs.Intake.{FitsIn, filled_is, Widens, Hears, TakesIn};
 
 use answers::{Checked, Fault, Read};
-use input::Got;
-use libc::STDIN_FILENO;
 use lines::Line;
+use std::io;
 
-// How many bytes of the window there are, and whether the input has ended behind them; or that a read failed.
+// How many bytes of the window there are, and whether the input has ended behind them.
 #[derive(Drop)]
-enum Window {
-    Bytes { count: usize, ended: bool },
-    Failed,
+struct Window {
+    count: usize,
+    ended: bool,
 }
 
-// What the lines came to, the first whose threshold is a written 0, whether the input had ended by then, and how many bytes were read; or that a
-// read failed.
+// What the lines came to, the first whose threshold is a written 0, whether the input had ended by then, and how many bytes were read.
 #[derive(Drop)]
-enum Heard {
-    Told(Read, u64, bool, usize),
-    Failed,
-}
-
-// The answer to reading the sheet, or that a read failed.
-#[derive(Drop)]
-pub enum Taken {
-    Sheet(Read),
-    Failed,
+struct Heard {
+    read: Read,
+    nought: u64,
+    ended: bool,
+    bytes: usize,
 }
 
 // What a read behind so many bytes comes to: a window that it did not fill is the last, and a failure is never the end.
-fn filled(len: usize, got: Got) -> Window
+fn filled(len: usize, got: io::Result<usize>) -> io::Result<Window>
     requires { FitsIn len got }
     ensures { result ≡ filled_is len got }
 {
-    let Got::Bytes { count } = got else {
-        return Window::Failed;
-    };
+    let count = got?;
     let all = len + count;
-    Window::Bytes {
+    Ok(Window {
         count: all,
         ended: all < 512,
-    }
+    })
 }
 
 // Reads on where the bytes at hand may be less than a line.
-fn widen(buf: &mut [u8], len: usize, ended: bool) -> Window
+fn widen<R: io::Read>(from: &mut R, buf: &mut [u8], len: usize, ended: bool) -> io::Result<Window>
     requires { (length buf.old ≡ 512) × (len ≤ 512) }
     ensures { Widens len buf.old buf.new result }
 {
     if ended || 188 <= len {
-        return Window::Bytes { count: len, ended };
+        return Ok(Window { count: len, ended });
     }
-    let got = input::read_all(STDIN_FILENO, &mut buf[len..]);
+    let got = input::read_all(from, &mut buf[len..]);
     filled(len, got)
 }
 
@@ -72,7 +63,7 @@ fn shift(buf: &mut [u8], used: usize, len: usize)
 }
 
 // The lines in turn, each judged when it is there as a whole.
-fn hear(words: &mut [u64]) -> Heard
+fn hear<R: io::Read>(from: &mut R, words: &mut [u64]) -> io::Result<Heard>
     requires { length words.old ≡ 512 }
     ensures { Hears words.new result }
 {
@@ -83,15 +74,23 @@ fn hear(words: &mut [u64]) -> Heard
     let mut r = 0;
     let mut nought = 0;
     loop {
-        let Window::Bytes { count, ended } = widen(&mut buf, len, end) else {
-            return Heard::Failed;
-        };
+        let Window { count, ended } = widen(from, &mut buf, len, end)?;
         bytes += count - len;
         if count == 0 {
-            return Heard::Told(Read::Words { count: 2 * r }, nought, ended, bytes);
+            return Ok(Heard {
+                read: Read::Words { count: 2 * r },
+                nought,
+                ended,
+                bytes,
+            });
         }
         if r == 256 {
-            return Heard::Told(Read::Bad(Fault::Count(257)), nought, ended, bytes);
+            return Ok(Heard {
+                read: Read::Bad(Fault::Count(257)),
+                nought,
+                ended,
+                bytes,
+            });
         }
         let Line::Good {
             level,
@@ -101,7 +100,12 @@ fn hear(words: &mut [u64]) -> Heard
             used,
         } = lines::line_at(&buf[..count], 0)
         else {
-            return Heard::Told(Read::Malformed { line: r + 1 }, nought, ended, bytes);
+            return Ok(Heard {
+                read: Read::Malformed { line: r + 1 },
+                nought,
+                ended,
+                bytes,
+            });
         };
         sheets::put_record(words, r, level, threshold, members);
         nought = sheets::first_nought(nought, here, r + 1);
@@ -126,46 +130,44 @@ fn next(bytes: usize) -> usize
 }
 
 // Reads so many bytes more, which nobody looks at.
-fn skip(n: usize) -> Got
+fn skip<R: io::Read>(from: &mut R, n: usize) -> io::Result<usize>
     requires { n ≤ 512 }
 {
     let mut buf = [0u8; 512];
-    input::read_all(STDIN_FILENO, &mut buf[..n])
+    input::read_all(from, &mut buf[..n])
 }
 
 // What follows a line that decides is read too, up to 65,536 bytes in all: of an input that fails nothing is reported.
-fn rest(ended: bool, bytes: usize) -> bool {
+fn rest<R: io::Read>(from: &mut R, ended: bool, bytes: usize) -> io::Result<()> {
     if ended {
-        return true;
+        return Ok(());
     }
     let mut before = bytes;
     while before < 65536 {
         let n = next(before);
-        let got = skip(n);
-        let Got::Bytes { count } = got else {
-            return false;
-        };
+        let count = skip(from, n)?;
         if count < n {
-            return true;
+            return Ok(());
         }
         before += n;
     }
-    true
+    Ok(())
 }
 
-// The sheet that standard input holds, read into a table.
-pub fn take(table: &mut [u64]) -> Taken
+// The sheet that the input holds, read into a table: the answer to reading it, or the error of a failed read.
+pub fn take<R: io::Read>(from: &mut R, table: &mut [u64]) -> io::Result<Read>
     requires { length table.old ≡ 512 }
     ensures { TakesIn table.new result }
 {
-    let Heard::Told(read, nought, ended, bytes) = hear(table) else {
-        return Taken::Failed;
-    };
-    if !rest(ended, bytes) {
-        return Taken::Failed;
-    }
+    let Heard {
+        read,
+        nought,
+        ended,
+        bytes,
+    } = hear(from, table)?;
+    rest(from, ended, bytes)?;
     let Read::Words { count } = read else {
-        return Taken::Sheet(read);
+        return Ok(read);
     };
     let k = count as usize;
     let checked = faults::check_lines(&table[..k], nought);
@@ -174,7 +176,7 @@ pub fn take(table: &mut [u64]) -> Taken
         records: _,
     } = checked
     else {
-        return Taken::Sheet(Read::Bad(faults::fault_of(checked)));
+        return Ok(Read::Bad(faults::fault_of(checked)));
     };
-    Taken::Sheet(read)
+    Ok(read)
 }

@@ -1,6 +1,6 @@
+// The report program, run on more bytes than it reads.
 #![tactic(auto)]
 
-// The report program, run on more bytes than it reads.
-fn main() {
-    command::run();
+fn main(rt: HostRuntime) {
+    command::run(&rt, &mut rt.stdin(), &mut rt.stdout());
 }

@@ -1,6 +1,8 @@
+// The reports on the papers' worked examples.
 #![tactic(auto)]
 
-// The reports on the papers' worked examples.
-fn main() {
-    stored::run();
+use std::io;
+
+fn main(rt: HostRuntime) -> io::Result<()> {
+    stored::run(&mut rt.stdin(), &mut rt.stdout())
 }

@@ -1,74 +1,71 @@
-// The report on standard output, one line after the other, within a small stack: the same lines that `report` puts into a buffer. Which
+// The report on an output, one line after the other, within a small stack: the same lines that `report` puts into a buffer. Which
 // bytes the system writes no contract can say; each function that prints a part of the report on a table is told how many bytes are handed over
-// before it, and asks that the part stands there in the report.
+// before it, and asks that the part stands there in the report. It answers how many bytes of the report are handed over then, or the error of
+// a failed write, which ends the printing.
 #![tactic(auto)]
 
-ghost use Rattle.std.specs.Prelude.{◌≡◌, cond, ◌≤◌, length};
+ghost use Rattle.std.specs.Prelude.{◌≡◌, ◌≤◌, length};
 ghost use Rattle.replies.specs.Shows.{told};
 ghost use Rattle.words.specs.Words.{word_text};
 ghost use Rattle.fields.specs.Fields.{line_of};
 ghost use Rattle.report_lines.specs.Lines.{refused_line, set_lines};
 ghost use Rattle.report_parts.specs.Parts.{list_text};
 ghost use Rattle.report.specs.Report.{head_part, minimal_part, blocking_part, report_on, report_of};
-ghost use Rattle.printing.specs.declared.Shown.TheVariants.{Up, Failed};
 ghost use Rattle.intake.specs.Intake.{WasRead};
-ghost use Rattle.printing.specs.Printing.{Stands, Handed, All, report_from};
+ghost use Rattle.printing.specs.Printing.{Stands, Handed, All, counted_is, report_from};
 
 use answers::Read;
-use libc::STDOUT_FILENO;
 use replies::Reply;
+use std::io;
+use std::io::Write;
 use words::{B, BLOCKING, MINIMAL, Q};
 
-// How many bytes of the report are handed over, or that a write failed, which ends the printing.
-#[derive(Drop)]
-pub enum Shown {
-    Up { to: usize },
-    Failed,
-}
-
 // What is counted of so many bytes: all, if they were taken.
-fn counted(taken: bool, bytes: usize) -> Shown
-    ensures { result ≡ cond taken (Up bytes) Failed }
+fn counted(taken: io::Result<()>, bytes: usize) -> io::Result<usize>
+    ensures { result ≡ counted_is taken bytes }
 {
-    if taken {
-        return Shown::Up { to: bytes };
+    match taken {
+        Ok(()) => Ok(bytes),
+        Err(error) => Err(error),
     }
-    Shown::Failed
 }
 
 // Hands the bytes of a line over, which the fields say.
-fn hand(fields: &[u64], bytes: &[u8]) -> Shown
+fn hand<W: Write>(out: &mut W, fields: &[u64], bytes: &[u8]) -> io::Result<usize>
     requires { (bytes.now ≡ line_of fields.now) × (length bytes.now ≤ 1092) }
     ensures { Handed (line_of fields.now) 0 1092 result }
 {
-    counted(io::write_all(STDOUT_FILENO, bytes), bytes.len())
+    counted(out.write_all(bytes), bytes.len())
 }
 
 // A line of up to six fields, which has at most 1,092 bytes, behind the bytes that are handed over before it. A report has some two million
 // bytes at the most; the bounds on how many are handed over already are there so that the counts can be added.
-fn print(at: usize, fields: &[u64]) -> Shown
+fn print<W: Write>(out: &mut W, at: usize, fields: &[u64]) -> io::Result<usize>
     requires { (at ≤ 4000000) × (length fields.now ≤ 12) }
     ensures { Handed (line_of fields.now) at 1092 result }
 {
     let mut line = [0u8; 1092];
     let k = fields::put_line(&mut line, fields);
-    let handed = hand(fields, &line[..k]);
-    let Shown::Up { to } = handed else {
-        return handed;
-    };
-    Shown::Up { to: at + to }
+    let to = hand(out, fields, &line[..k])?;
+    Ok(at + to)
 }
 
 // A line of the report on a table, which stands there. The table is lent for what is asked alone, so that nothing else can be printed.
-fn show(table: &[u64], at: usize, fields: &[u64]) -> Shown
+fn show<W: Write>(out: &mut W, table: &[u64], at: usize, fields: &[u64]) -> io::Result<usize>
     requires { (Stands (report_on table.now) at (line_of fields.now)) × (at ≤ 4000000) × (length fields.now ≤ 12) }
     ensures { Handed (line_of fields.now) at 1092 result }
 {
-    print(at, fields)
+    print(out, at, fields)
 }
 
 // A line for each set of a list, behind the letter of the list.
-fn show_sets(table: &[u64], at: usize, letter: u64, sets: &[u64]) -> Shown
+fn show_sets<W: Write>(
+    out: &mut W,
+    table: &[u64],
+    at: usize,
+    letter: u64,
+    sets: &[u64],
+) -> io::Result<usize>
     requires { (Stands (report_on table.now) at (set_lines (word_text letter) sets.now)) × (at ≤ 2000000) × (length sets.now ≤ 1024) }
     ensures { Handed (set_lines (word_text letter) sets.now) at 1118208 result }
 {
@@ -76,107 +73,100 @@ fn show_sets(table: &[u64], at: usize, letter: u64, sets: &[u64]) -> Shown
     let mut i = 0;
     while i < sets.len() {
         let line = report_lines::one(letter, sets[i]);
-        let shown = show(table, place, &line);
-        let Shown::Up { to } = shown else {
-            return shown;
-        };
+        let to = show(out, table, place, &line)?;
         place = to;
         i += 1;
     }
-    Shown::Up { to: place }
+    Ok(place)
 }
 
 // A list: its line, and the lines of its sets.
-fn show_list(table: &[u64], at: usize, name: u64, letter: u64, r: Reply, sets: &[u64]) -> Shown
+fn show_list<W: Write>(
+    out: &mut W,
+    table: &[u64],
+    at: usize,
+    name: u64,
+    letter: u64,
+    r: Reply,
+    sets: &[u64],
+) -> io::Result<usize>
     requires { (Stands (report_on table.now) at (list_text (word_text name) (word_text letter) r sets.now)) × (at ≤ 1500000) × (length sets.now ≤ 1024) }
     ensures { Handed (list_text (word_text name) (word_text letter) r sets.now) at 1119300 result }
 {
     let line = report_lines::listed(name, r);
-    let shown = show(table, at, &line);
-    let Shown::Up { to } = shown else {
-        return shown;
-    };
-    show_sets(table, to, letter, sets)
+    let to = show(out, table, at, &line)?;
+    show_sets(out, table, to, letter, sets)
 }
 
 // The nodes and records of the table, and the verdict: what the report starts with.
-fn show_head(table: &[u64]) -> Shown
+fn show_head<W: Write>(out: &mut W, table: &[u64]) -> io::Result<usize>
     ensures { Handed (head_part table.now) 0 2184 result }
 {
     let nodes = report_lines::nodes(replies::of_checked(faults::check_table(table)));
-    let shown = show(table, 0, &nodes);
-    let Shown::Up { to } = shown else {
-        return shown;
-    };
+    let to = show(out, table, 0, &nodes)?;
     let verdict = verdict::intersect(table, 0, report::ALLOWANCE);
     let line = report_lines::verdict(replies::of_verdict(verdict));
-    show(table, to, &line)
+    show(out, table, to, &line)
 }
 
 // The minimal quorums.
-fn show_minimal(table: &[u64], at: usize) -> Shown
+fn show_minimal<W: Write>(out: &mut W, table: &[u64], at: usize) -> io::Result<usize>
     requires { (Stands (report_on table.now) at (minimal_part table.now)) × (at ≤ 1500000) }
     ensures { Handed (minimal_part table.now) at 1119300 result }
 {
     let mut sets = [0u64; 1024];
     let listed = report::minimal(table, &mut sets);
     let k = report::following(listed);
-    show_list(table, at, MINIMAL, Q, listed, &sets[..k])
+    show_list(out, table, at, MINIMAL, Q, listed, &sets[..k])
 }
 
 // The minimal blocking sets.
-fn show_blocking(table: &[u64], at: usize) -> Shown
+fn show_blocking<W: Write>(out: &mut W, table: &[u64], at: usize) -> io::Result<usize>
     requires { (Stands (report_on table.now) at (blocking_part table.now)) × (at ≤ 1500000) }
     ensures { Handed (blocking_part table.now) at 1119300 result }
 {
     let mut sets = [0u64; 1024];
     let listed = report::blocking(table, &mut sets);
     let k = report::following(listed);
-    show_list(table, at, BLOCKING, B, listed, &sets[..k])
+    show_list(out, table, at, BLOCKING, B, listed, &sets[..k])
 }
 
 // The report on a table, which is that on what was read.
-fn show_table(read: Read, words: &[u64], table: &[u64]) -> Shown
+fn show_table<W: Write>(out: &mut W, read: Read, words: &[u64], table: &[u64]) -> io::Result<usize>
     requires { report_on table.now ≡ report_from read words.now }
     ensures { All (report_from read words.now) result }
 {
-    let head = show_head(table);
-    let Shown::Up { to } = head else {
-        return head;
-    };
-    let minimal = show_minimal(table, to);
-    let Shown::Up { to: behind } = minimal else {
-        return minimal;
-    };
-    show_blocking(table, behind)
+    let to = show_head(out, table)?;
+    let behind = show_minimal(out, table, to)?;
+    show_blocking(out, table, behind)
 }
 
 // A bad sheet: one line.
-fn show_refused(read: Read, words: &[u64], r: Reply) -> Shown
+fn show_refused<W: Write>(out: &mut W, read: Read, words: &[u64], r: Reply) -> io::Result<usize>
     requires { refused_line (told r) ≡ report_from read words.now }
     ensures { All (report_from read words.now) result }
 {
     let line = report_lines::refused(r);
-    print(0, &line)
+    print(out, 0, &line)
 }
 
 // The report on a sheet, from what it was read to: one line for a bad one, otherwise that on the table of its words.
-pub fn show_read(read: Read, words: &[u64]) -> Shown
+pub fn show_read<W: Write>(out: &mut W, read: Read, words: &[u64]) -> io::Result<usize>
     requires { WasRead read words.now }
     ensures { (w : WasRead read words.now) → All (report_of w.sheet) result }
 {
     let Read::Words { count } = read else {
-        return show_refused(read, words, replies::of_read(read));
+        return show_refused(out, read, words, replies::of_read(read));
     };
     let k = count as usize;
-    show_table(read, words, &words[..k])
+    show_table(out, read, words, &words[..k])
 }
 
 // The report on a sheet.
-pub fn show_report(sheet: &[u8]) -> Shown
+pub fn show_report<W: Write>(out: &mut W, sheet: &[u8]) -> io::Result<usize>
     ensures { All (report_of sheet.now) result }
 {
     let mut words = [0u64; 512];
     let read = sheets::read_sheet(sheet, &mut words);
-    show_read(read, &words)
+    show_read(out, read, &words)
 }

@@ -1,9 +1,8 @@
 // The reports on stored sheets, one after the other: each sheet stands behind its length, two bytes with the lower first.
 #![tactic(auto)]
 
-use input::Got;
-use libc::STDIN_FILENO;
-use std::num::wrapping_add_usize;
+use std::io;
+use std::io::{Read, Write};
 
 // A byte as a number.
 fn wide(x: u8) -> usize {
@@ -19,45 +18,43 @@ fn two(s: &[u8]) -> usize {
 }
 
 // The report on the sheet at the start of the bytes: how many it takes with its length, or all where there is none.
-fn sheet_at(s: &[u8]) -> usize {
+fn sheet_at<W: Write>(out: &mut W, s: &[u8]) -> io::Result<usize> {
     let all = s.len();
     if all < 2 {
-        return all;
+        return Ok(all);
     }
     let length = two(s);
     if length > all - 2 {
-        return all;
+        return Ok(all);
     }
     let end = 2 + length;
-    printing::show_report(&s[2..end]);
-    end
+    printing::show_report(out, &s[2..end])?;
+    Ok(end)
 }
 
 // The sheet at a place, and the place after it.
-fn step(s: &[u8], at: usize) -> usize {
+fn step<W: Write>(out: &mut W, s: &[u8], at: usize) -> io::Result<usize> {
     if at < s.len() {
-        wrapping_add_usize(at, sheet_at(&s[at..]))
+        let taken = sheet_at(out, &s[at..])?;
+        Ok(at.wrapping_add(taken))
     } else {
-        at
+        Ok(at)
     }
 }
 
 // All sheets, up to 256.
-fn all_sheets(s: &[u8]) {
+fn all_sheets<W: Write>(out: &mut W, s: &[u8]) -> io::Result<()> {
     let mut at = 0;
-    let mut left: u64 = 256;
-    while left > 0 {
-        at = step(s, at);
-        left -= 1;
+    for _ in 0..256 {
+        at = step(out, s, at)?;
     }
+    Ok(())
 }
 
-// The reports on the sheets of standard input. Where it cannot be read there is none, and the run is refused for what is missing.
-pub fn run() {
-    let mut bytes = io::large_buffer();
-    let got = input::read_all(STDIN_FILENO, &mut bytes);
-    let Got::Bytes { count } = got else {
-        return;
-    };
-    all_sheets(&bytes[..count]);
+// The reports on the sheets of the input, the first 65,536 bytes. Where it cannot be read there is none, and where a report cannot be written
+// none behind it.
+pub fn run<R: Read, W: Write>(from: &mut R, out: &mut W) -> io::Result<()> {
+    let mut bytes = [0u8; 65536];
+    let count = input::read_all(from, &mut bytes)?;
+    all_sheets(out, &bytes[..count])
 }
