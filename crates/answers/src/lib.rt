@@ -3,7 +3,7 @@
 #![tactic(auto)]
 
 // Numbers 1 to 7: why a table is turned away, with the place.
-#[derive(Drop)]
+#[derive(Clone, Copy)]
 pub enum Fault {
     // 1: odd word count, no record, over 256
     Count(u64),
@@ -22,14 +22,14 @@ pub enum Fault {
 }
 
 // A table is checked.
-#[derive(Drop)]
+#[derive(Clone, Copy)]
 pub enum Checked {
     Sound { nodes: u64, records: u64 },
     Bad(Fault),
 }
 
 // A text is read into a lent list of words.
-#[derive(Drop)]
+#[derive(Clone, Copy)]
 pub enum Read {
     Words { count: u64 },
     Short { count: u64 },
@@ -38,7 +38,7 @@ pub enum Read {
 }
 
 // A table is written as a text into a lent buffer of bytes.
-#[derive(Drop)]
+#[derive(Clone, Copy)]
 pub enum Wrote {
     Bytes { count: u64 },
     Short { count: u64 },
@@ -46,7 +46,7 @@ pub enum Wrote {
 }
 
 // A question answered by yes or no: is this a quorum; does this set block this node.
-#[derive(Drop)]
+#[derive(Clone, Copy)]
 pub enum Judged {
     Yes,
     No,
@@ -55,7 +55,7 @@ pub enum Judged {
 }
 
 // The greatest quorum within a set, and its rounds.
-#[derive(Drop)]
+#[derive(Clone, Copy)]
 pub enum Greatest {
     Is { set: u64, rounds: u64 },
     Outside,
@@ -63,7 +63,7 @@ pub enum Greatest {
 }
 
 // Do all quorums intersect?
-#[derive(Drop)]
+#[derive(Clone, Copy)]
 pub enum Verdict {
     Yes {
         visits: u64,
@@ -82,7 +82,7 @@ pub enum Verdict {
 }
 
 // A list of sets, written to a lent list of words.
-#[derive(Drop)]
+#[derive(Clone, Copy)]
 pub enum Listed {
     Sets { count: u64, visits: u64 },
     Short { count: u64 },
@@ -92,7 +92,7 @@ pub enum Listed {
 }
 
 // The intact nodes for an ill set.
-#[derive(Drop)]
+#[derive(Clone, Copy)]
 pub enum Intact {
     Are {
         set: u64,

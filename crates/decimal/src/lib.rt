@@ -6,7 +6,7 @@ ghost use Rattle.decimal.specs.Bytes.{Written};
 ghost use Rattle.decimal.specs.Decimal.{numeral, digit_at, read_number};
 
 // A number and how many bytes it took.
-#[derive(Drop)]
+#[derive(Clone, Copy)]
 pub enum Number {
     Got(u64, usize),
     Bad,

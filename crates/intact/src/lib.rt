@@ -17,7 +17,7 @@ ghost use Rattle.intact.specs.Promise.{IntactPromise};
 use answers::{Checked, Intact, Verdict};
 
 // What a round comes to: the end of the question, or the set to go on from and the visits so far.
-#[derive(Drop)]
+#[derive(Clone, Copy)]
 pub enum Turn {
     Ended(Intact),
     Next { u: u64, visits: u64 },

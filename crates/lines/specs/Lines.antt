@@ -1,5 +1,5 @@
 -- The lines of a trust sheet (SPECIFICATION 2): level, threshold and members, parted by one tab and ended by LF.
-use Rattle.std.specs.Prelude.{ℕ, ◌+◌, Bool, true, false, cond, ◌&&◌, List, [], ◌∷◌, ◌++◌, ltb, eqb, get_or, drop}
+use Rattle.std.specs.Prelude.{ℕ, ◌+◌, Bool, false, cond, ◌&&◌, List, [], ◌∷◌, ◌++◌, ltb, eqb, get_or, drop}
 use Rattle.decimal.specs.Decimal.{numeral, read_number, on_number}
 use Rattle.decimal.specs.declared.Number.{Number}
 use Rattle.decimal.specs.declared.Number.TheVariants.{Got, Bad}

@@ -9,14 +9,14 @@ use decimal::Number;
 use members::Members;
 
 // A threshold, whether it is a written 0, and how many bytes it took with the tab behind it.
-#[derive(Drop)]
+#[derive(Clone, Copy)]
 pub enum Threshold {
     Got(u64, bool, usize),
     Bad,
 }
 
 // A record, whether its threshold is a written 0, and how many bytes its line took.
-#[derive(Drop)]
+#[derive(Clone, Copy)]
 pub enum Line {
     Good {
         level: u64,

@@ -2,11 +2,11 @@
 use mathlib.Core.Path.{◌≡◌, refl, sym, ap, ◌∙◌, subst}
 use mathlib.Core.Bool.{Bool, true, false}
 use mathlib.Core.List.{List}
-use mathlib.Core.Logic.{◌⊎◌, ⊎_elim}
+use mathlib.Core.Logic.{⊎_elim}
 use native.Mathlib.Omega.{arith}
 use Prim.Native.Nat.{ℕ, ◌^◌, ◌<◌}
 use lib.Pow.{pow_pos, pow-lt}
-use Rattle.sets.specs.Sets.{has, nobody, everyone, only, ◌∪◌, ◌∩◌, ◌∖◌, within}
+use Rattle.sets.specs.Sets.{has, nobody, everyone, only, ◌∪◌, ◌∖◌, within}
 use Rattle.sets.proofs.Bools.{either, clash, fails}
 use Rattle.sets.proofs.Members.{In, Sub, has-nobody, has_below, has-everyone, everyone-lt, ∪-left, ∪_right, ∪_cases, ∪-lt, ∩_out, ∖_in, ∖_out, ∖-lt, only_in, only_out, none_in, sub_antisym, sub_within, within-sub}
 use Rattle.meanings.specs.Table.{nodes, satisfied}

@@ -3,7 +3,7 @@ use Rattle.std.specs.Prelude.{◌≡◌, Bool, true, false, cond, List, ℕ, suc
 use Rattle.meanings.specs.Of as of
 use Rattle.sets.specs.Sets.{has, nobody, everyone, only, ◌∪◌, ◌∩◌, ◌∖◌, empty, within, size, lowest}
 use Rattle.meanings.specs.Table.{nodes, satisfied}
-use Rattle.meanings.specs.Quorums.{quorum, greatest, holds_quorum, minimal_quorum, blocking_set, minimal_blocking}
+use Rattle.meanings.specs.Quorums.{quorum, holds_quorum, minimal_quorum, blocking_set, minimal_blocking}
 use Rattle.meanings.specs.Trees.{Tree, leaf, found, unsplit, fork, found_if, quorum_tree, blocking_from}
 use Rattle.plans.specs.Plans.{Planned}
 use Rattle.listing_visits.specs.declared.Sought.{Sought}

@@ -22,7 +22,7 @@ pub enum Sought {
 }
 
 // A leaf; a leaf whose chosen nodes are listed; no node to split on; or a split on node v, with those still due.
-#[derive(Drop)]
+#[derive(Clone, Copy)]
 pub enum Step {
     Leaf,
     Listed,

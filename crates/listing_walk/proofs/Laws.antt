@@ -3,7 +3,6 @@
 use mathlib.Core.Path.{◌≡◌, refl, sym, ap, ap₂, ◌∙◌, subst}
 use mathlib.Core.Bool.{Bool, true, false, cond}
 use mathlib.Core.List.{List, [], ◌∷◌, ◌++◌}
-use mathlib.Core.Logic.{◌⊎◌, inl, inr}
 use Prim.Native.Nat.{ℕ, suc, ◌+◌, ◌≤◌, ◌<◌}
 use native.Mathlib.Nat.{le_refl, add-zero}
 use native.Mathlib.Omega.{arith}
@@ -14,7 +13,7 @@ use lib.Seq.{sets}
 use Rattle.meanings.specs.Trees.{Tree, leaf, found, unsplit, fork, Listing, listed, broken, then_list, list}
 use Rattle.meanings.specs.Questions.{list_puts}
 use Rattle.answers.specs.declared.Listed.{Listed}
-use Rattle.answers.specs.declared.Listed.TheVariants.{Sets, Short, Spent, Unsplit, Bad}
+use Rattle.answers.specs.declared.Listed.TheVariants.{Sets, Spent, Unsplit}
 use Rattle.listing_walk.specs.Walked.{answered, Walked}
 
 -- ---- a tree has a visit, and no more finds than visits

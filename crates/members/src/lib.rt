@@ -10,7 +10,7 @@ ghost use Rattle.members.specs.Steps.{id_text};
 use decimal::Number;
 
 // One id and how many bytes it took: with a comma behind it, or the last.
-#[derive(Drop)]
+#[derive(Clone, Copy)]
 enum Id {
     More(u64, usize),
     Last(u64, usize),
@@ -18,7 +18,7 @@ enum Id {
 }
 
 // A set and how many bytes its list took.
-#[derive(Drop)]
+#[derive(Clone, Copy)]
 pub enum Members {
     Got(u64, usize),
     Bad,

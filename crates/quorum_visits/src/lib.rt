@@ -23,7 +23,7 @@ pub struct Visit {
 
 // What a visit comes to: no quorum in reach that has all chosen nodes; chosen nodes that are no quorum, with those that are still due; or a
 // quorum.
-#[derive(Drop)]
+#[derive(Clone, Copy)]
 pub enum Met {
     Dry,
     Waits(u64),

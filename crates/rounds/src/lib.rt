@@ -9,7 +9,7 @@ ghost use Rattle.meanings.specs.Of as of;
 ghost use Rattle.tables.specs.Heads.{Headed};
 ghost use Rattle.rounds.specs.Rounds.{Ground};
 
-#[derive(Drop)]
+#[derive(Clone, Copy)]
 pub struct Left {
     pub set: u64,
     pub rounds: u64,

@@ -10,7 +10,6 @@ use native.Mathlib.Omega.{arith}
 use borrow.Author.Tests.{eq-eqb, eqb-true, le-leb, leb-true, ltb-false}
 use lib.Bits.{and_zero_l}
 use lib.Dec.{leb, eqb}
-use lib.ListN.{length}
 use Rattle.sets.specs.Sets.{◌∩◌}
 use Rattle.sets.proofs.Bools.{and_parts, not-holds, bool_ext}
 use Rattle.sets.proofs.Size.{le-or-lt}

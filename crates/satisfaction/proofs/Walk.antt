@@ -9,11 +9,10 @@ use native.Mathlib.Omega.{arith}
 use borrow.Author.Tests.{le-leb, lt-leb}
 use lib.Dec.{leb}
 use Rattle.sets.proofs.Bools.{either}
-use Rattle.sets.proofs.Size.{le-or-lt}
 use Rattle.meanings.specs.Table.{records, level}
 use Rattle.meanings.specs.Faults.{check, sound}
 use Rattle.tables.specs.Run.{bump}
-use Rattle.tables.proofs.Runs.{inner_from, from_stop, from_hit, from_miss, from_deeper}
+use Rattle.tables.proofs.Runs.{from_stop, from_hit, from_miss, from_deeper}
 use Rattle.tables.proofs.Sound.{sound_table}
 use Rattle.satisfaction.specs.Judged.{holds, lack, still}
 use Rattle.satisfaction.specs.Wanted.{owed, comes}

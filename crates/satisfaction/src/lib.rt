@@ -12,7 +12,7 @@ ghost use Rattle.satisfaction.specs.Wanted.{owed, comes, Gets, left};
 
 // How many inner sets are still wanted: by the set that is judged, by the last one below it, and by the last one below that. A set that
 // wants none is satisfied and has been counted.
-#[derive(Drop)]
+#[derive(Clone, Copy)]
 struct Wanted {
     outer: u64,
     inner: u64,

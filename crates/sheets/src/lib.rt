@@ -13,7 +13,7 @@ use answers::{Checked, Fault, Read, Wrote};
 use lines::Line;
 
 // What the lines of a sheet come to, and the first whose threshold is a written 0; 0 where there is none.
-#[derive(Drop)]
+#[derive(Clone, Copy)]
 struct Lines {
     read: Read,
     nought: u64,

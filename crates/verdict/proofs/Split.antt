@@ -1,11 +1,7 @@
 -- The two visits below a split, and how their walks make up the whole.
 use mathlib.Core.Path.{◌≡◌, refl, sym, ap, ◌∙◌, subst}
-use mathlib.Core.List.{List, [], ◌∷◌}
-use mathlib.Core.Logic.{⊎_elim}
-use types.Run.{OneOf}
-use denote.Enum.Declared.{tag_of}
-use Prim.Native.Nat.{ℕ, suc, ◌≤◌, ◌<◌}
-use native.Mathlib.Omega.{arith}
+use mathlib.Core.List.{List}
+use Prim.Native.Nat.{ℕ, ◌≤◌, ◌<◌}
 use Rattle.sets.specs.Sets.{nobody, only, ◌∪◌, ◌∖◌, size, lowest}
 use Rattle.sets.proofs.Members.{In}
 use Rattle.meanings.specs.Table.{nodes, satisfied}

@@ -24,7 +24,7 @@ pub struct Question {
 
 // What a visit comes to before it splits: a leaf; a quorum outside the chosen nodes, which are a quorum too; or a split, with the chosen
 // nodes that are still due.
-#[derive(Drop)]
+#[derive(Clone, Copy)]
 pub enum Step {
     Leaf,
     Pair(u64),

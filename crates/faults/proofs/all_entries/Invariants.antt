@@ -1,15 +1,10 @@
 -- Up to the record that is reached nothing is wrong, so the first fault from there on is the first of all.
-use mathlib.Core.Path.{◌≡◌, refl, sym, ap}
-use Prim.Native.Nat.{ℕ, ◌+◌, ◌-◌, ◌≤◌}
-use native.Mathlib.Nat.{sub-zero}
-use native.Mathlib.Omega.{arith}
-use borrow.Author.Rules.{rules}
-use lib.ListN
-use Rattle.sets.specs.Lists.{from}
+use mathlib.Core.Path.{◌≡◌}
+use Prim.Native.Nat.{◌-◌, ◌≤◌}
 use Rattle.meanings.specs.Table.{records}
-use Rattle.meanings.specs.Faults.{first_fault, entry_fault}
-use Rattle.faults.specs.Walk.{counted, entries_from}
-use Rattle.faults.proofs.Laws.{faults_from, walk_stops, walk_goes, walk_ends}
+use Rattle.meanings.specs.Faults.{entry_fault}
+use Rattle.faults.specs.Walk.{entries_from}
+use Rattle.faults.proofs.Laws.{faults_from}
 use Rattle.faults.proofs.all_entries.Given as goal
 
 abbrev pub invariant-loop-r : goal.invariant-loop-r

@@ -2,7 +2,6 @@
 -- the first has found in order.
 use mathlib.Core.Path.{◌≡◌, sym, ap, ◌∙◌}
 use Prim.Native.Nat.{ℕ}
-use borrow.Author.Rules.{rules}
 use Rattle.meanings.specs.Table.{records, nodes}
 use Rattle.meanings.specs.Faults.{Check, sound, or_else}
 use Rattle.meanings.specs.Questions.{on_check}

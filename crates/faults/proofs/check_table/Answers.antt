@@ -1,6 +1,5 @@
 -- Where no line has a written 0, the check is that of the table.
 use mathlib.Core.Path.{ap, ◌∙◌}
-use borrow.Author.Rules.{rules}
 use Rattle.meanings.specs.Table.{records, nodes}
 use Rattle.meanings.specs.Faults.{Check}
 use Rattle.meanings.specs.Questions.{on_check, check_reply}

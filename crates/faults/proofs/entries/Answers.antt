@@ -3,9 +3,7 @@
 use mathlib.Core.Path.{ap₂, ◌∙◌}
 use Prim.Native.Nat.{ℕ, ◌+◌, ◌^◌, ◌<◌}
 use native.Mathlib.Omega.{arith}
-use borrow.Author.Rules.{rules}
 use lib.Count.{ones}
-use lib.ListN
 use Rattle.meanings.specs.Table.{records, members}
 use Rattle.faults.proofs.Laws.{ones_le, entries_run}
 use Rattle.faults.proofs.entries.Goals as goal

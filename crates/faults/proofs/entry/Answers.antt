@@ -3,7 +3,6 @@ use mathlib.Core.Path.{◌≡◌, sym, ap, ◌∙◌}
 use mathlib.Core.Bool.{not}
 use Prim.Native.Nat.{◌+◌, ◌<◌, ◌≤◌}
 use native.Mathlib.Omega.{arith}
-use borrow.Author.Rules.{rules}
 use Rattle.meanings.specs.Table.{entries, threshold}
 use Rattle.meanings.specs.Faults.{Check, strangers}
 use Rattle.meanings.specs.Questions.{on_check}

@@ -1,7 +1,6 @@
 use mathlib.Core.Path.{ap, ◌∙◌}
 use Prim.Native.Nat.{ℕ, ◌+◌}
 use Rattle.faults.proofs.Laws.{highest_first, highest_next}
-use borrow.Author.Rules.{rules}
 use Rattle.faults.proofs.highest.Goals as goal
 
 pub returns-then-r-eq0 : goal.returns-then-r-eq0

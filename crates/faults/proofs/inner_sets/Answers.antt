@@ -2,15 +2,13 @@
 use mathlib.Core.Path.{◌≡◌, refl, sym, ap, ◌∙◌}
 use mathlib.Core.Bool.{true}
 use mathlib.Core.List.{List}
-use mathlib.Core.Logic.{⊎_elim}
 use Prim.Native.Nat.{ℕ, ◌+◌, ◌-◌, ◌<◌, ◌≤◌}
 use native.Mathlib.Omega.{arith}
 use native.Mathlib.Numerals.{add-one}
 use native.Mathlib.Nat.{zero-add}
-use lib.ListN
 use Rattle.meanings.specs.Table.{records, level}
 use Rattle.tables.specs.Run.{inner_run}
-use Rattle.tables.proofs.Runs.{inner_from, from_stop, from_end, from_hit, from_deeper, from_le}
+use Rattle.tables.proofs.Runs.{from_stop, from_end, from_hit, from_deeper, from_le}
 use Rattle.faults.proofs.inner_sets.Invariants.{left}
 use Rattle.faults.proofs.inner_sets.Goals.{then-here-above-2, else-here-above-2}
 use Rattle.faults.proofs.inner_sets.Goals as goal
@@ -67,10 +65,10 @@ loop-j-preserved c =
     let l : j < records T = c.loop-j-test.true in
     let h : a < level T j = omega (arith, c.if-here-above.false) in
     elim c.if-here-above-2.branch [
-      then-here-above-2 w ↦
-        let e = from_hit (λ i. true) T a j l h (sym el ∙ w.if-here-above-2.true ∙ add-one a) refl in (omega arith, omega arith, omega arith)
-    | else-here-above-2 w ↦
-        let e = from_deeper (λ i. true) T a j l h (λ q. w.if-here-above-2.false (el ∙ q ∙ sym (add-one a))) in (omega arith, omega arith, omega arith)
+      | then-here-above-2 w ↦
+          let e = from_hit (λ i. true) T a j l h (sym el ∙ w.if-here-above-2.true ∙ add-one a) refl in (omega arith, omega arith, omega arith)
+      | else-here-above-2 w ↦
+          let e = from_deeper (λ i. true) T a j l h (λ q. w.if-here-above-2.false (el ∙ q ∙ sym (add-one a))) in (omega arith, omega arith, omega arith)
     ]
 
 pub returns : goal.returns

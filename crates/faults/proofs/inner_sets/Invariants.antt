@@ -1,16 +1,10 @@
 -- What is counted so far and what the run still has from the next record on are together what the run has.
-use mathlib.Core.Path.{◌≡◌, refl, sym, ap, ◌∙◌}
+use mathlib.Core.Path.{◌≡◌}
 use mathlib.Core.Bool.{true}
 use mathlib.Core.List.{List}
-use mathlib.Core.Logic.{⊎_elim}
-use Prim.Native.Nat.{ℕ, ◌+◌, ◌-◌, ◌<◌, ◌≤◌}
-use native.Mathlib.Omega.{arith}
-use native.Mathlib.Numerals.{add-one}
-use native.Mathlib.Nat.{zero-add}
-use lib.ListN
-use Rattle.meanings.specs.Table.{records, level}
-use Rattle.tables.specs.Run.{inner_run}
-use Rattle.tables.proofs.Runs.{inner_from, from_stop, from_end, from_hit, from_deeper, from_le}
+use Prim.Native.Nat.{ℕ, ◌+◌, ◌-◌, ◌≤◌}
+use Rattle.meanings.specs.Table.{records}
+use Rattle.tables.proofs.Runs.{inner_from}
 use Rattle.faults.proofs.inner_sets.Given as goal
 
 -- the run from record j on

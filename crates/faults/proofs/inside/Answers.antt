@@ -1,7 +1,6 @@
 -- A set lies within the first n nodes where a shift by n leaves nothing of it; and any word lies within the first 64.
 use mathlib.Core.Path.{sym}
 use Rattle.faults.proofs.Laws.{within_shift, within_all}
-use borrow.Author.Rules.{rules}
 use Rattle.faults.proofs.inside.Goals as goal
 
 pub returns-then-nodes-eq64 : goal.returns-then-nodes-eq64

@@ -2,7 +2,6 @@
 use mathlib.Core.Path.{◌≡◌, sym, ap, ◌∙◌}
 use mathlib.Core.List.{[], ◌∷◌}
 use Prim.Native.Nat.{ℕ, suc, ◌+◌}
-use borrow.Author.Rules.{rules}
 use lib.Dec.{eqb}
 use Rattle.meanings.specs.Faults.{Check, sound, fault_if, shape_fault, line_fault}
 use Rattle.meanings.specs.Replies.{reply, ◌is◌, Place}

@@ -5,8 +5,7 @@ use mathlib.Core.Bool.{false}
 use mathlib.Core.Logic.{⊎_elim}
 use Prim.Native.Nat.{ℕ, ◌+◌}
 use native.Mathlib.Omega.{arith}
-use borrow.Author.Rules.{rules}
-use borrow.Author.Tests.{eqb-true, eqb-false}
+use borrow.Author.Tests.{eqb-true}
 use Rattle.meanings.specs.Faults.{Check, sound, shape_fault, bad_control, bad_level, surplus}
 use Rattle.meanings.specs.Questions.{on_check}
 use Rattle.tables.specs.Heads.{heads_before}

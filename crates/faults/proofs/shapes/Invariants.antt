@@ -1,18 +1,12 @@
 -- Up to the record that is reached nothing is wrong, so the first fault from there on is the first of all; and the nodes counted
 -- are those that the records before it open.
-use mathlib.Core.Path.{◌≡◌, sym, ap, ◌∙◌}
-use Prim.Native.Nat.{ℕ, ◌+◌, ◌-◌, ◌≤◌}
-use native.Mathlib.Nat.{sub-zero}
-use native.Mathlib.Omega.{arith}
-use borrow.Author.Rules.{rules}
-use lib.ListN
-use Rattle.meanings.specs.Table.{records, nodes}
-use Rattle.meanings.specs.Faults.{line_fault, first_fault}
-use Rattle.sets.specs.Lists.{from}
+use mathlib.Core.Path.{◌≡◌}
+use Prim.Native.Nat.{◌-◌, ◌≤◌}
+use Rattle.meanings.specs.Table.{records}
+use Rattle.meanings.specs.Faults.{line_fault}
 use Rattle.tables.specs.Heads.{heads_before}
-use Rattle.tables.proofs.Heads.{before_first, before-all}
-use Rattle.faults.specs.Walk.{counted, lines_from}
-use Rattle.faults.proofs.Laws.{faults_from, walk_stops, walk_goes, walk_ends}
+use Rattle.faults.specs.Walk.{lines_from}
+use Rattle.faults.proofs.Laws.{faults_from}
 use Rattle.faults.proofs.shapes.Given as goal
 
 abbrev pub invariant-loop-r : goal.invariant-loop-r

@@ -1,5 +1,4 @@
 -- Six fields take at most 1,092 bytes, so the line fits; what writing it answers is its length.
-use borrow.Author.Rules.{rules}
 use native.Mathlib.Omega.{arith}
 use Prim.Native.Nat.{ℕ, ◌^◌, ◌≤◌, ◌<◌}
 use lib.ListN.{length, get_or}

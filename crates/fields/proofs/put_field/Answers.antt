@@ -1,5 +1,4 @@
 -- The byte goes right behind the text.
-use borrow.Author.Rules.{rules}
 use native.Mathlib.Omega.{arith}
 use Prim.Native.Nat.{◌<◌}
 use mathlib.Core.List.{[], ◌∷◌}

@@ -1,5 +1,4 @@
 -- What is written so far and what is still to be written make the line; each turn writes one field more.
-use borrow.Author.Rules.{rules}
 use native.Mathlib.Omega.{arith}
 use Prim.Native.Nat.{ℕ, ◌+◌, ◌-◌, ◌≤◌, ◌<◌}
 use mathlib.Core.Path.{◌≡◌, refl, sym, ap, ◌∙◌, subst}
@@ -10,7 +9,6 @@ use Rattle.decimal.specs.Bytes.{Written}
 use Rattle.decimal.proofs.Place.{within, room, next, length_front}
 use Rattle.fields.specs.Fields.{field_text, line_of, end_at, ended}
 use Rattle.fields.proofs.Laws.{next_field, no_field}
-use Rattle.fields.proofs.put_line.Invariants.{Sofar}
 use Rattle.fields.proofs.put_line.Goals as goal
 
 -- the field that is reached, with the byte behind it

@@ -1,5 +1,4 @@
 -- Each kind of field is written by its own writer.
-use borrow.Author.Rules.{rules}
 use Rattle.fields.specs.Fields.{field_text}
 use Rattle.fields.proofs.Sorts.{kind_fits, kind_written, no_kind}
 use Rattle.fields.proofs.put_text.Goals as goal

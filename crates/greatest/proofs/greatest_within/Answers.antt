@@ -1,14 +1,12 @@
 -- Those present keep the greatest quorum that was asked for: nodes judged satisfied are no longer left to judge, unsatisfied ones are
 -- struck, and then those they touch are left to judge.
 use mathlib.Core.Path.{◌≡◌, refl, sym, ap, ap₂, ◌∙◌, subst}
-use mathlib.Core.Logic.{⊎_elim}
 use Prim.Native.Nat.{ℕ, ◌<◌}
 use Rattle.sets.specs.Sets.{◌∪◌, ◌∩◌, ◌∖◌}
 use Rattle.sets.proofs.Members.{In}
 use Rattle.meanings.specs.Table.{nodes, satisfied}
 use Rattle.plans.specs.Plans.{like_at, touched_at}
 use Rattle.greatest.proofs.Laws.{in_plan, node_lt, Lasts, measure, done, passed, passed_less, lost, struck, struck_less}
-use borrow.Author.Rules.{rules}
 use Rattle.greatest.proofs.greatest_within.Goals.{then-surely, else-surely}
 use Rattle.greatest.proofs.greatest_within.Goals as goal
 
@@ -40,8 +38,8 @@ pub loop-left-smaller-then-good : goal.loop-left-smaller-then-good
 loop-left-smaller-then-good c =
     let alike_are : (i : ℕ) → In (like_at c.args.plan.now c.next-v.result) i → satisfied c.args.t.now (c.loop-left.present ∪ c.args.d) i ≡ c.if-surely.good = λ i p.
     elim c.if-surely.branch [
-      then-surely w ↦ c.surely.ensures w.if-surely.true i p ∙ sym (w.good-is ∙ w.if-surely.true)
-    | else-surely w ↦ w.meets-good.ensures i p ∙ sym w.good-is
+      | then-surely w ↦ c.surely.ensures w.if-surely.true i p ∙ sym (w.good-is ∙ w.if-surely.true)
+      | else-surely w ↦ w.meets-good.ensures i p ∙ sym w.good-is
     ] in
     let left_is : c.without-left.result ≡ c.loop-left.left ∖ like_at c.args.plan.now c.next-v.result =
     c.without-left.ensures ∙ ap (λ (x : ℕ). c.loop-left.left ∖ x) c.like-alike.ensures in
@@ -53,8 +51,8 @@ pub loop-left-preserved-then-good : goal.loop-left-preserved-then-good
 loop-left-preserved-then-good c =
     let alike_are : (i : ℕ) → In (like_at c.args.plan.now c.next-v.result) i → satisfied c.args.t.now (c.loop-left.present ∪ c.args.d) i ≡ c.if-surely.good = λ i p.
     elim c.if-surely.branch [
-      then-surely w ↦ c.surely.ensures w.if-surely.true i p ∙ sym (w.good-is ∙ w.if-surely.true)
-    | else-surely w ↦ w.meets-good.ensures i p ∙ sym w.good-is
+      | then-surely w ↦ c.surely.ensures w.if-surely.true i p ∙ sym (w.good-is ∙ w.if-surely.true)
+      | else-surely w ↦ w.meets-good.ensures i p ∙ sym w.good-is
     ] in
     let left_is : c.without-left.result ≡ c.loop-left.left ∖ like_at c.args.plan.now c.next-v.result =
     c.without-left.ensures ∙ ap (λ (x : ℕ). c.loop-left.left ∖ x) c.like-alike.ensures in
@@ -66,8 +64,8 @@ pub returns-then-must-present : goal.returns-then-must-present
 returns-then-must-present c =
     let alike_are : (i : ℕ) → In (like_at c.args.plan.now c.next-v.result) i → satisfied c.args.t.now (c.loop-left.present ∪ c.args.d) i ≡ c.if-surely.good = λ i p.
     elim c.if-surely.branch [
-      then-surely w ↦ c.surely.ensures w.if-surely.true i p ∙ sym (w.good-is ∙ w.if-surely.true)
-    | else-surely w ↦ w.meets-good.ensures i p ∙ sym w.good-is
+      | then-surely w ↦ c.surely.ensures w.if-surely.true i p ∙ sym (w.good-is ∙ w.if-surely.true)
+      | else-surely w ↦ w.meets-good.ensures i p ∙ sym w.good-is
     ] in
     let rest_is : c.without-present.result ≡ c.loop-left.present ∖ like_at c.args.plan.now c.next-v.result =
     c.without-present.ensures ∙ ap (λ (x : ℕ). c.loop-left.present ∖ x) c.like-alike.ensures in
@@ -84,8 +82,8 @@ pub loop-left-smaller : goal.loop-left-smaller
 loop-left-smaller c =
     let alike_are : (i : ℕ) → In (like_at c.args.plan.now c.next-v.result) i → satisfied c.args.t.now (c.loop-left.present ∪ c.args.d) i ≡ c.if-surely.good = λ i p.
     elim c.if-surely.branch [
-      then-surely w ↦ c.surely.ensures w.if-surely.true i p ∙ sym (w.good-is ∙ w.if-surely.true)
-    | else-surely w ↦ w.meets-good.ensures i p ∙ sym w.good-is
+      | then-surely w ↦ c.surely.ensures w.if-surely.true i p ∙ sym (w.good-is ∙ w.if-surely.true)
+      | else-surely w ↦ w.meets-good.ensures i p ∙ sym w.good-is
     ] in
     let rest_is : c.without-present.result ≡ c.loop-left.present ∖ like_at c.args.plan.now c.next-v.result =
     c.without-present.ensures ∙ ap (λ (x : ℕ). c.loop-left.present ∖ x) c.like-alike.ensures in
@@ -100,8 +98,8 @@ pub loop-left-preserved : goal.loop-left-preserved
 loop-left-preserved c =
     let alike_are : (i : ℕ) → In (like_at c.args.plan.now c.next-v.result) i → satisfied c.args.t.now (c.loop-left.present ∪ c.args.d) i ≡ c.if-surely.good = λ i p.
     elim c.if-surely.branch [
-      then-surely w ↦ c.surely.ensures w.if-surely.true i p ∙ sym (w.good-is ∙ w.if-surely.true)
-    | else-surely w ↦ w.meets-good.ensures i p ∙ sym w.good-is
+      | then-surely w ↦ c.surely.ensures w.if-surely.true i p ∙ sym (w.good-is ∙ w.if-surely.true)
+      | else-surely w ↦ w.meets-good.ensures i p ∙ sym w.good-is
     ] in
     let rest_is : c.without-present.result ≡ c.loop-left.present ∖ like_at c.args.plan.now c.next-v.result =
     c.without-present.ensures ∙ ap (λ (x : ℕ). c.loop-left.present ∖ x) c.like-alike.ensures in

@@ -7,7 +7,6 @@ use Rattle.meanings.specs.Table.{nodes, satisfied}
 use Rattle.meanings.specs.Quorums.{greatest}
 use Rattle.greatest.specs.Greatest.{holding}
 use Rattle.greatest.proofs.Laws.{in_plan, struck_lt, strikes}
-use borrow.Author.Rules.{rules}
 use Rattle.greatest.proofs.greatest_without.Goals as goal
 
 pub one-requires : goal.one-requires
@@ -26,8 +25,7 @@ touched-requires c =
 
 pub greatest_within-requires : goal.greatest_within-requires
 greatest_within-requires c =
-    let rest_is : c.without-u.result ≡ c.args.g ∖ only c.args.v = c.without-u.ensures ∙ ap (λ (x : ℕ). c.args.g ∖ x) c.one.ensures in
-    (
+    let rest_is : c.without-u.result ≡ c.args.g ∖ only c.args.v = c.without-u.ensures ∙ ap (λ (x : ℕ). c.args.g ∖ x) c.one.ensures in (
       c.requires.0,
       strikes c.args.t.now c.args.plan.now c.requires.0 c.args.d c.args.g c.args.v c.args.must c.requires.1
           c.without-u.result (c.touched.result ∩ c.without-u.result) rest_is (ap (λ (x : ℕ). x ∩ c.without-u.result) c.touched.ensures),

@@ -5,7 +5,6 @@ use Prim.Native.Nat.{ℕ, ◌<◌, ◌^◌}
 use Rattle.sets.specs.Sets.{nobody, ◌∩◌, lowest}
 use Rattle.sets.proofs.Members.{In, has_below, ∩_out, ∩-lt}
 use Rattle.sets.proofs.Lowest.{lowest_in}
-use borrow.Author.Rules.{rules}
 use Rattle.greatest.proofs.next.Goals as goal
 
 found : (m i : ℕ) → m < 2 ^ 64 → ¬ (m ≡ nobody) → i ≡ lowest 64 m → In m i × (i < 64)

@@ -1,6 +1,5 @@
 -- Nodes found satisfied are no longer due, with those alike; at the first that is not, not all of the set are.
 use mathlib.Core.Path.{◌≡◌, sym, ap, ◌∙◌, subst}
-use mathlib.Core.Logic.{⊎_elim}
 use Prim.Native.Nat.{ℕ, ◌<◌}
 use Rattle.sets.specs.Sets.{◌∪◌, ◌∖◌, size}
 use Rattle.sets.proofs.Bools.{not-holds, not_fails}
@@ -9,7 +8,6 @@ use Rattle.meanings.specs.Table.{nodes, satisfied}
 use Rattle.plans.specs.Plans.{like_at}
 use Rattle.greatest.specs.Greatest.{Waiting}
 use Rattle.greatest.proofs.Laws.{in_plan, all_met, first_in, node_lt, not_met, fewer_due, due_less}
-use borrow.Author.Rules.{rules}
 use Rattle.greatest.proofs.unmet.Goals.{then-surely, else-surely}
 use Rattle.greatest.proofs.unmet.Goals as goal
 
@@ -40,8 +38,8 @@ returns-then-not-good c =
     node_lt c.args.t.now c.args.plan.now c.requires.0 c.args.d c.args.c c.loop-left.left c.loop-left.invariant c.first-v.result chosen in
     let alike_are : (i : ℕ) → In (like_at c.args.plan.now c.first-v.result) i → satisfied c.args.t.now (c.args.c ∪ c.args.d) i ≡ c.if-surely.good = λ i p.
     elim c.if-surely.branch [
-      then-surely w ↦ c.surely.ensures w.if-surely.true i p ∙ sym (w.good-is ∙ w.if-surely.true)
-    | else-surely w ↦ w.meets-good.ensures i p ∙ sym w.good-is
+      | then-surely w ↦ c.surely.ensures w.if-surely.true i p ∙ sym (w.good-is ∙ w.if-surely.true)
+      | else-surely w ↦ w.meets-good.ensures i p ∙ sym w.good-is
     ] in
     let P = c.requires.0 in (
       c.loop-left.invariant,
@@ -63,8 +61,8 @@ loop-left-smaller c =
     first_in c.args.t.now c.args.plan.now c.requires.0 c.args.d c.args.c c.loop-left.left c.loop-left.invariant c.first-v.result c.loop-left-test.true c.first-v.ensures.0 in
     let alike_are : (i : ℕ) → In (like_at c.args.plan.now c.first-v.result) i → satisfied c.args.t.now (c.args.c ∪ c.args.d) i ≡ c.if-surely.good = λ i p.
     elim c.if-surely.branch [
-      then-surely w ↦ c.surely.ensures w.if-surely.true i p ∙ sym (w.good-is ∙ w.if-surely.true)
-    | else-surely w ↦ w.meets-good.ensures i p ∙ sym w.good-is
+      | then-surely w ↦ c.surely.ensures w.if-surely.true i p ∙ sym (w.good-is ∙ w.if-surely.true)
+      | else-surely w ↦ w.meets-good.ensures i p ∙ sym w.good-is
     ] in
     let left_is : c.without-left.result ≡ c.loop-left.left ∖ like_at c.args.plan.now c.first-v.result =
     c.without-left.ensures ∙ ap (λ (x : ℕ). c.loop-left.left ∖ x) c.like.ensures in
@@ -78,8 +76,8 @@ loop-left-preserved c =
     first_in c.args.t.now c.args.plan.now c.requires.0 c.args.d c.args.c c.loop-left.left c.loop-left.invariant c.first-v.result c.loop-left-test.true c.first-v.ensures.0 in
     let alike_are : (i : ℕ) → In (like_at c.args.plan.now c.first-v.result) i → satisfied c.args.t.now (c.args.c ∪ c.args.d) i ≡ c.if-surely.good = λ i p.
     elim c.if-surely.branch [
-      then-surely w ↦ c.surely.ensures w.if-surely.true i p ∙ sym (w.good-is ∙ w.if-surely.true)
-    | else-surely w ↦ w.meets-good.ensures i p ∙ sym w.good-is
+      | then-surely w ↦ c.surely.ensures w.if-surely.true i p ∙ sym (w.good-is ∙ w.if-surely.true)
+      | else-surely w ↦ w.meets-good.ensures i p ∙ sym w.good-is
     ] in
     let left_is : c.without-left.result ≡ c.loop-left.left ∖ like_at c.args.plan.now c.first-v.result =
     c.without-left.ensures ∙ ap (λ (x : ℕ). c.loop-left.left ∖ x) c.like.ensures in
@@ -88,8 +86,7 @@ loop-left-preserved c =
     (λ i p. alike_are i p ∙ not_fails c.if-surely.good c.if-not-good.false-raw))
 
 pub returns : goal.returns
-returns c =
-    (
-      subst (Waiting c.args.t.now c.args.d c.args.c) c.loop-left-test.false c.loop-left.invariant,
-      all_met c.args.t.now c.args.plan.now c.requires.0 c.args.d c.args.c c.loop-left.left c.loop-left.invariant c.loop-left-test.false,
-    )
+returns c = (
+  subst (Waiting c.args.t.now c.args.d c.args.c) c.loop-left-test.false c.loop-left.invariant,
+  all_met c.args.t.now c.args.plan.now c.requires.0 c.args.d c.args.c c.loop-left.left c.loop-left.invariant c.loop-left-test.false,
+)

@@ -2,7 +2,6 @@
 use mathlib.Core.Path.{sym, ap, ◌∙◌}
 use Rattle.intact.specs.Rounds.{on_no}
 use Rattle.intact.proofs.Taken.{not-no, no-no}
-use borrow.Author.Rules.{rules}
 use Rattle.intact.proofs.divided.Goals as goal
 
 pub returns-in_default : goal.returns-in_default

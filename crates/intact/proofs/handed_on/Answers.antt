@@ -2,7 +2,6 @@
 use mathlib.Core.Path.{sym, ap}
 use Rattle.intact.specs.Rounds.{handed_on}
 use Rattle.intact.proofs.Taken.{not_spent}
-use borrow.Author.Rules.{rules}
 use Rattle.intact.proofs.handed_on.Goals as goal
 
 pub returns-in_default : goal.returns-in_default

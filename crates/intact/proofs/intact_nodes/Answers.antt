@@ -18,7 +18,6 @@ use Rattle.faults.proofs.Known.{fault_known}
 use Rattle.faults.proofs.Opening.{Passed, past_check, set_inside, set_outside, set_answered}
 use Rattle.intact.specs.Rounds.{within}
 use Rattle.intact.proofs.Meaning.{says_within, promised}
-use borrow.Author.Rules.{rules}
 use Rattle.intact.proofs.intact_nodes.Goals as goal
 
 -- what is told, in the order of the numbers
@@ -63,8 +62,7 @@ returns-then-not-inside c =
 pub intact_of-requires : goal.intact_of-requires
 intact_of-requires c =
     let passed : Passed c.args.table.now c.in-Sound.nodes =
-    past_check c.args.table.now c.check_table-checked.result c.check_table-checked.ensures c.in-Sound.nodes c.in-Sound.records c.in-Sound.is in
-    (
+    past_check c.args.table.now c.check_table-checked.result c.check_table-checked.ensures c.in-Sound.nodes c.in-Sound.records c.in-Sound.is in (
       passed.checked,
       passed.nodes_are,
       set_inside c.args.table.now c.in-Sound.nodes passed c.args.ill c.inside.result c.inside.ensures c.if-not-inside.false-raw,

@@ -8,7 +8,6 @@ use Rattle.meanings.specs.Table.{nodes, satisfied}
 use Rattle.meanings.specs.Quorums.{greatest}
 use Rattle.meanings.specs.Trees.{Pair}
 use Rattle.intact.proofs.Rounds.{first_empty, second_empty, shared}
-use borrow.Author.Rules.{rules}
 use Rattle.intact.proofs.next.Goals as goal
 
 -- what q has left without one of the two is a set of nodes

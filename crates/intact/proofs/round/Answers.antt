@@ -8,7 +8,6 @@ use Rattle.meanings.specs.Quorums.{greatest}
 use Rattle.theory.proofs.Greatest.{greatest-lt}
 use Rattle.intact.proofs.Taken.{not-no}
 use Rattle.intact.proofs.Rounds.{stops, goes_on}
-use borrow.Author.Rules.{rules}
 use Rattle.intact.proofs.round.Goals as goal
 
 -- q is a set of nodes

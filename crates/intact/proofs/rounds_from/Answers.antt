@@ -1,10 +1,6 @@
 -- The rounds from here, after the visits so far, answer what the rounds from the start do. Each round leaves fewer nodes, so they end.
-use mathlib.Core.Path.{◌≡◌, refl, ◌∙◌, subst}
-use Prim.Native.Nat.{◌^◌, ◌<◌}
-use Rattle.sets.specs.Sets.{size}
-use Rattle.meanings.specs.Table.{nodes}
-use Rattle.intact.specs.Rounds.{within, rounds_of, Sequel, Turned}
-use borrow.Author.Rules.{rules}
+use mathlib.Core.Path.{refl, ◌∙◌, subst}
+use Rattle.intact.specs.Rounds.{Sequel, Turned}
 use Rattle.intact.proofs.rounds_from.Goals as goal
 
 pub loop-answer-init : goal.loop-answer-init

@@ -3,7 +3,6 @@ use mathlib.Core.Path.{sym, ap, ◌∙◌}
 use Rattle.intact.specs.Rounds.{on_yes}
 use Rattle.verdict.proofs.Split.{not_yes}
 use Rattle.intact.proofs.Taken.{no-yes}
-use borrow.Author.Rules.{rules}
 use Rattle.intact.proofs.settled.Goals as goal
 
 pub returns-in_default : goal.returns-in_default

@@ -5,7 +5,6 @@ use Rattle.meanings.specs.Table.{nodes, satisfied}
 use Rattle.meanings.specs.Trees.{verdict_tree, walk}
 use Rattle.verdict.specs.Search.{within}
 use Rattle.intact.proofs.Rounds.{counted_out, ground_is}
-use borrow.Author.Rules.{rules}
 use Rattle.intact.proofs.verdict_of.Goals as goal
 
 pub search_from-requires : goal.search_from-requires

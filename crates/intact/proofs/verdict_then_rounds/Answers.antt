@@ -5,7 +5,6 @@ use Rattle.sets.proofs.Members.{everyone-lt, ∖-lt}
 use Rattle.meanings.specs.Table.{nodes}
 use Rattle.verdict.proofs.Split.{not_yes}
 use Rattle.intact.proofs.Rounds.{plain_stops, plain_goes_on}
-use borrow.Author.Rules.{rules}
 use Rattle.intact.proofs.verdict_then_rounds.Goals as goal
 
 pub verdict_of-plain-requires : goal.verdict_of-plain-requires

@@ -1,5 +1,4 @@
 -- The part from `at` to the end is all that is left from there.
-use borrow.Author.Rules.{rules}
 use mathlib.Core.Path.{◌∙◌, ap}
 use Rattle.decimal.proofs.Order.{rest}
 use Rattle.lines.specs.Lines.{read_line}

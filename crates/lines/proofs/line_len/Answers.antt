@@ -1,5 +1,4 @@
 -- The line's length is that of its fields and three bytes, and each field has few, so that the sum fits.
-use borrow.Author.Rules.{rules}
 use native.Mathlib.Omega.{arith}
 use Prim.Native.Nat.{◌≤◌}
 use Rattle.decimal.proofs.Numeral.{length_word}

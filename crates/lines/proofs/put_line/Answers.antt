@@ -1,5 +1,4 @@
 -- Each field is written right behind those before it, so that in the end the three stand at the front one after the other.
-use borrow.Author.Rules.{rules}
 use native.Mathlib.Omega.{arith}
 use Prim.Native.Nat.{◌+◌, ◌-◌, ◌≤◌}
 use mathlib.Core.List.{◌++◌, append_assoc}

@@ -1,5 +1,4 @@
 -- The two bytes of a `?` and its tab are set one behind the other; any other threshold is written as a number is.
-use borrow.Author.Rules.{rules}
 use native.Mathlib.Omega.{arith}
 use Prim.Native.Nat.{◌≤◌}
 use mathlib.Core.Path.{◌≡◌, refl, ap}

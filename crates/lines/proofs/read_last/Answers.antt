@@ -1,5 +1,4 @@
 -- Each return is one case of the definition: no list, a list and the line's end, or another byte.
-use borrow.Author.Rules.{rules}
 use borrow.Author.Tests.{eq-eqb, ne_eqb}
 use native.Mathlib.Omega.{arith}
 use mathlib.Core.Path.{◌≡◌, sym, ◌∙◌}

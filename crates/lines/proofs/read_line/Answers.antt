@@ -1,5 +1,4 @@
 -- Each field is read from where the one before ended, which lies within the text, and each return is one case of the definition.
-use borrow.Author.Rules.{rules}
 use borrow.Author.Tests.{lt-ltb, le-ltb}
 use native.Mathlib.Omega.{arith}
 use Prim.Native.Nat.{◌+◌, ◌≤◌}

@@ -1,10 +1,8 @@
 -- Each return is one case of the definition: a `?` that may stand there, one that may not, no number, or a number.
-use borrow.Author.Rules.{rules}
 use borrow.Author.Tests.{eq-eqb, ne_eqb}
 use native.Mathlib.Omega.{arith}
 use mathlib.Core.Path.{◌≡◌}
-use mathlib.Core.Bool.{true, false}
-use mathlib.Core.Logic.{⊎_elim}
+use mathlib.Core.Bool.{true}
 use lib.Dec.{eqb}
 use Rattle.lines.specs.Lines.{read_threshold}
 use Rattle.lines.proofs.read_threshold.Goals.{else-level-eq0-via-then-level-eq0+else-byte_at-eq9, else-level-eq0-via-else-level-eq0}
@@ -23,9 +21,9 @@ returns-then-byte_at-eq63 c =
     rw (← c.byte_at.ensures)
     (simp (eq-eqb _ _ c.if-byte_at-eq63.true)
     (elim c.else-level-eq0.branch [
-      else-level-eq0-via-then-level-eq0+else-byte_at-eq9 w ↦
-        rw (← w.byte_at-then-level-eq0.ensures) (simp (eq-eqb _ _ w.if-level-eq0.true, ne_eqb _ _ w.if-byte_at-eq9.false))
-    | else-level-eq0-via-else-level-eq0 w ↦ simp (ne_eqb _ _ w.if-level-eq0.false)
+      | else-level-eq0-via-then-level-eq0+else-byte_at-eq9 w ↦
+          rw (← w.byte_at-then-level-eq0.ensures) (simp (eq-eqb _ _ w.if-level-eq0.true, ne_eqb _ _ w.if-byte_at-eq9.false))
+      | else-level-eq0-via-else-level-eq0 w ↦ simp (ne_eqb _ _ w.if-level-eq0.false)
     ]))
 
 pub returns-in_default : goal.returns-in_default

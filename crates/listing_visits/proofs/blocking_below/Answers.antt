@@ -4,7 +4,6 @@ use mathlib.Core.Bool.{Bool}
 use Rattle.quorum_visits.specs.Visits.{chosen_below}
 use Rattle.listing_visits.specs.declared.Sought.TheVariants.{Blocking}
 use Rattle.listing_visits.specs.Visits.{Below}
-use borrow.Author.Rules.{rules}
 use Rattle.listing_visits.proofs.blocking_below.Goals as goal
 
 pub returns-then-taken : goal.returns-then-taken

@@ -5,7 +5,6 @@ use Prim.Native.Nat.{ℕ}
 use borrow.Author.Tests.{eq-eqb, ne_eqb}
 use Rattle.sets.specs.Sets.{lowest}
 use Rattle.listing_visits.specs.declared.Step.TheVariants.{Stuck, Split}
-use borrow.Author.Rules.{rules}
 use Rattle.listing_visits.proofs.choose.Goals as goal
 
 pub returns-then-on-eq0 : goal.returns-then-on-eq0

@@ -3,7 +3,6 @@ use mathlib.Core.Path.{ap, ◌∙◌}
 use Prim.Native.Nat.{ℕ}
 use Rattle.sets.specs.Sets.{◌∖◌}
 use Rattle.listing_visits.proofs.Handed.{open_64, leave_blocking}
-use borrow.Author.Rules.{rules}
 use Rattle.listing_visits.proofs.leave.Goals as goal
 
 pub one-one-requires : goal.one-one-requires

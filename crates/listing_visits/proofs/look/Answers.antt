@@ -2,7 +2,6 @@
 use mathlib.Core.Path.{sym, subst}
 use Rattle.listing_visits.specs.declared.Sought.{Sought}
 use Rattle.listing_visits.specs.Visits.{Stands, Comes}
-use borrow.Author.Rules.{rules}
 use Rattle.listing_visits.proofs.look.Goals as goal
 
 pub look_quorums-requires : goal.look_quorums-requires

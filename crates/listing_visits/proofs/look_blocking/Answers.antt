@@ -8,7 +8,6 @@ use Rattle.tables.proofs.Sound.{sound_table}
 use Rattle.listing_visits.specs.Visits.{tree_at, Comes}
 use Rattle.listing_visits.specs.declared.Sought.TheVariants.{Blocking}
 use Rattle.listing_visits.proofs.Steps.{came, quorum_outside, none-blocks, at_blocking_lem, blocking_split, lists, lists_not}
-use borrow.Author.Rules.{rules}
 use Rattle.listing_visits.proofs.look_blocking.Goals as goal
 
 pub returns-then-shut : goal.returns-then-shut

@@ -11,7 +11,6 @@ use Rattle.quorum_visits.specs.Visits.{dry, MetIs}
 use Rattle.listing_visits.specs.Visits.{tree_at, Comes}
 use Rattle.listing_visits.specs.declared.Sought.TheVariants.{Quorums}
 use Rattle.listing_visits.proofs.Steps.{came, dried, at_quorum, quorums_split, lists, lists_not}
-use borrow.Author.Rules.{rules}
 use Rattle.listing_visits.proofs.look_quorums.Goals as goal
 
 pub meet-met-requires : goal.meet-met-requires

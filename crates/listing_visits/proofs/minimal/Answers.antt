@@ -7,7 +7,6 @@ use Rattle.meanings.specs.Table.{nodes, satisfied}
 use Rattle.tables.proofs.Sound.{sound_table}
 use Rattle.listing_visits.specs.Visits.{Left}
 use Rattle.listing_visits.proofs.Laws.{left-all, left-none, next_in, next_lt, next_spared, next_fewer, left_next}
-use borrow.Author.Rules.{rules}
 use Rattle.listing_visits.proofs.minimal.Goals as goal
 
 pub loop-left-init : goal.loop-left-init
@@ -17,8 +16,7 @@ loop-left-init c =
 
 pub can_spare-requires : goal.can_spare-requires
 can_spare-requires c =
-    let few : nodes c.args.t.now ≤ 64 = (sound_table c.args.t.now c.requires.footing.planned.checked).nodes-le in
-    (
+    let few : nodes c.args.t.now ≤ 64 = (sound_table c.args.t.now c.requires.footing.planned.checked).nodes-le in (
       c.requires,
       c.loop-left.invariant,
       next_in (nodes c.args.t.now) (satisfied c.args.t.now) c.args.sought c.args.c few c.loop-left.left c.loop-left.invariant

@@ -1,13 +1,7 @@
 -- The nodes of c are taken out one after another, the lowest first; those that are out cannot be spared.
-use native.Mathlib.Omega.{arith}
-use mathlib.Core.Path.{◌≡◌, sym, ap, ◌∙◌, subst}
-use Prim.Native.Nat.{ℕ, ◌<◌, ◌≤◌}
-use Rattle.sets.specs.Sets.{only, ◌∖◌, size}
+use Rattle.sets.specs.Sets.{size}
 use Rattle.meanings.specs.Table.{nodes, satisfied}
-use Rattle.tables.proofs.Sound.{sound_table}
 use Rattle.listing_visits.specs.Visits.{Left}
-use Rattle.listing_visits.proofs.Laws.{left-all, left-none, next_in, next_lt, next_spared, next_fewer, left_next}
-use borrow.Author.Rules.{rules}
 use Rattle.listing_visits.proofs.minimal.Given as goal
 
 abbrev pub invariant-loop-left : goal.invariant-loop-left

@@ -8,7 +8,6 @@ use Rattle.meanings.specs.Quorums.{greatest}
 use Rattle.greatest.specs.Greatest.{holding}
 use Rattle.greatest.proofs.Below.{all_due, holding-holds}
 use Rattle.listing_visits.proofs.Handed.{due_there}
-use borrow.Author.Rules.{rules}
 use Rattle.listing_visits.proofs.shut.Goals as goal
 
 pub returns-then-a : goal.returns-then-a

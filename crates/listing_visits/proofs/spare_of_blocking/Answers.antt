@@ -11,7 +11,6 @@ use Rattle.satisfaction.proofs.Monotone.{satisfied_monotone}
 use Rattle.greatest.specs.Greatest.{holding}
 use Rattle.greatest.proofs.Below.{all_due}
 use Rattle.listing_visits.proofs.Laws.{spares_blocking, one_outside}
-use borrow.Author.Rules.{rules}
 use Rattle.listing_visits.proofs.spare_of_blocking.Goals as goal
 
 pub one-one-requires : goal.one-one-requires

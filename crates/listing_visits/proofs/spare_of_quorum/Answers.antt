@@ -8,7 +8,6 @@ use Rattle.satisfaction.proofs.Monotone.{satisfied_monotone}
 use Rattle.greatest.specs.Greatest.{holding, Striking}
 use Rattle.greatest.proofs.Below.{closed_quorum}
 use Rattle.listing_visits.proofs.Laws.{spares_quorum, done_stay, left_in}
-use borrow.Author.Rules.{rules}
 use Rattle.listing_visits.proofs.spare_of_quorum.Goals as goal
 
 pub greatest_without-requires : goal.greatest_without-requires

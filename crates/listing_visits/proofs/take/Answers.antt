@@ -3,7 +3,6 @@ use mathlib.Core.Path.{ap, ◌∙◌}
 use Prim.Native.Nat.{ℕ}
 use Rattle.sets.specs.Sets.{◌∖◌}
 use Rattle.listing_visits.proofs.Handed.{open_64, strikes_outside, take-blocking}
-use borrow.Author.Rules.{rules}
 use Rattle.listing_visits.proofs.take.Goals as goal
 
 pub one-one-requires : goal.one-one-requires

@@ -7,8 +7,7 @@ use Rattle.meanings.specs.Trees.{Tree, fork}
 use Rattle.listing_visits.specs.declared.Step.{Step}
 use Rattle.listing_visits.specs.Visits.{tree_at, open_below, Comes, Splits}
 use Rattle.listing_walk.proofs.Laws.{walk_spent, walk_leaf, walk_found, walk_unsplit, walk_first, walk_second, still_fewer}
-use borrow.Author.Rules.{rules}
-use Prim.Native.Nat.{ℕ, ◌<◌, ◌+◌}
+use Prim.Native.Nat.{ℕ}
 use Rattle.listing_walk.proofs.+walk.Goals as goal
 
 pub returns-then-s-spent : goal.returns-then-s-spent

@@ -14,7 +14,6 @@ use Rattle.faults.proofs.Known.{sound_known, fault_known}
 use Rattle.answers.specs.Said.{listed_says}
 use Rattle.lists.specs.Lists.{tree_of}
 use Rattle.lists.proofs.Promise.{faulty}
-use borrow.Author.Rules.{rules}
 use Rattle.lists.proofs.answer.Goals as goal
 
 pub plan-requires : goal.plan-requires

@@ -8,7 +8,6 @@ use lib.ListN.{length}
 use Rattle.meanings.specs.Replies.{Lent}
 use Rattle.answers.specs.Said.{listed_says}
 use Rattle.lists.proofs.Means.{blocking-put}
-use borrow.Author.Rules.{rules}
 use Rattle.lists.proofs.blocking_sets.Goals as goal
 
 pub returns : goal.returns

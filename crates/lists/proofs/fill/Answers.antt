@@ -16,7 +16,6 @@ use Rattle.answers.specs.declared.Listed.TheVariants.{Sets, Short}
 use Rattle.answers.specs.Said.{listed_says}
 use Rattle.lists.specs.Lists.{tree_of}
 use Rattle.lists.proofs.Promise.{own_refused, own_short, own_copied, lent_walked}
-use borrow.Author.Rules.{rules}
 use Rattle.lists.proofs.fill.Goals as goal
 
 -- the tree below the root is the whole tree

@@ -8,7 +8,6 @@ use lib.ListN.{length}
 use Rattle.meanings.specs.Replies.{Lent}
 use Rattle.answers.specs.Said.{listed_says}
 use Rattle.lists.proofs.Means.{minimal-put}
-use borrow.Author.Rules.{rules}
 use Rattle.lists.proofs.minimal_quorums.Goals as goal
 
 pub returns : goal.returns

@@ -1,7 +1,6 @@
 -- The loop keeps the node itself and those passed whose sets comparing calls the same, which makes them alike.
 use mathlib.Core.Path.{sym, subst}
-use mathlib.Core.Logic.{⊎_elim}
-use Prim.Native.Nat.{◌-◌, ◌<◌, ◌≤◌}
+use Prim.Native.Nat.{◌<◌}
 use native.Mathlib.Omega.{arith}
 use Rattle.meanings.specs.Table.{nodes as nodes_of, head_of}
 use Rattle.tables.proofs.Heads.{head_in}
@@ -67,10 +66,10 @@ loop-i-preserved c =
     let i = c.loop-i.i in
     let H = c.requires.0 in
     elim c.if-same_set.branch [
-      then-same_set w ↦
-        let a : Alike t (head_of t i) (head_of t c.args.v) = rw (H.found i other, H.found c.args.v node) at (c.same_set.ensures w.if-same_set.true) in
-        (omega arith, rw (w.like-is, w.one-like-then-same_set.ensures) (one_alike t c.args.v c.loop-i.like i c.loop-i.invariant.1 a))
-    | else-same_set w ↦ (omega arith, rw w.like-is c.loop-i.invariant.1)
+      | then-same_set w ↦
+          let a : Alike t (head_of t i) (head_of t c.args.v) = rw (H.found i other, H.found c.args.v node) at (c.same_set.ensures w.if-same_set.true) in
+          (omega arith, rw (w.like-is, w.one-like-then-same_set.ensures) (one_alike t c.args.v c.loop-i.like i c.loop-i.invariant.1 a))
+      | else-same_set w ↦ (omega arith, rw w.like-is c.loop-i.invariant.1)
     ]
 
 pub returns : goal.returns

@@ -1,11 +1,10 @@
 -- The loop keeps the names of the nodes passed, each found from the node's record.
-use mathlib.Core.Path.{◌≡◌, refl, ◌∙◌}
-use Prim.Native.Nat.{◌-◌, ◌<◌, ◌≤◌}
+use mathlib.Core.Path.{refl, ◌∙◌}
+use Prim.Native.Nat.{◌<◌}
 use native.Mathlib.Omega.{arith}
-use lib.ListN.{length, length-set}
+use lib.ListN.{length-set}
 use Rattle.meanings.specs.Table.{nodes as nodes_of}
 use Rattle.tables.proofs.Heads.{head_in}
-use Rattle.plans.specs.Named.{NamedTo}
 use Rattle.plans.proofs.Naming.{one_named}
 use Rattle.plans.proofs.name_nodes.Goals as goal
 

@@ -1,12 +1,8 @@
 -- The loop keeps the names of the nodes passed, each found from the node's record.
-use mathlib.Core.Path.{◌≡◌, refl, ◌∙◌}
-use Prim.Native.Nat.{◌-◌, ◌<◌, ◌≤◌}
-use native.Mathlib.Omega.{arith}
-use lib.ListN.{length, length-set}
-use Rattle.meanings.specs.Table.{nodes as nodes_of}
-use Rattle.tables.proofs.Heads.{head_in}
+use mathlib.Core.Path.{◌≡◌}
+use Prim.Native.Nat.{◌-◌, ◌≤◌}
+use lib.ListN.{length}
 use Rattle.plans.specs.Named.{NamedTo}
-use Rattle.plans.proofs.Naming.{one_named}
 use Rattle.plans.proofs.name_nodes.Given as goal
 
 abbrev pub invariant-loop-v : goal.invariant-loop-v

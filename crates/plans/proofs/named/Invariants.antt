@@ -1,13 +1,7 @@
 -- The loop keeps the members of the records passed, and stops where the set is at its end.
-use mathlib.Core.Path.{sym, ◌∙◌}
 use Prim.Native.Nat.{◌-◌, ◌<◌, ◌≤◌}
-use native.Mathlib.Omega.{arith}
-use borrow.Author.Rules.{rules}
-use Rattle.sets.proofs.Bools.{not-holds, not_fails}
 use Rattle.meanings.specs.Table.{records}
-use Rattle.tables.proofs.Sound.{record_in}
-use Rattle.plans.proofs.SameSets.{not-ended}
-use Rattle.plans.proofs.Naming.{Gathered, first_gathered, one_more, whole_names}
+use Rattle.plans.proofs.Naming.{Gathered}
 use Rattle.plans.proofs.named.Given as goal
 
 abbrev pub invariant-loop-all : goal.invariant-loop-all

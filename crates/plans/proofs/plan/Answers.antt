@@ -1,13 +1,9 @@
 -- The nodes' records and what they name are found once; the loop then plans one node after the other.
 use mathlib.Core.Path.{◌≡◌, refl, ◌∙◌}
-use Prim.Native.Nat.{◌-◌, ◌≤◌}
 use native.Mathlib.Numerals.{add-one}
 use native.Mathlib.Omega.{arith}
-use borrow.Author.Rules.{rules}
-use lib.ListN.{length}
 use Rattle.meanings.specs.Table.{nodes as nodes_of}
 use Rattle.tables.proofs.Sound.{sound_table}
-use Rattle.plans.specs.Plans.{PlannedTo}
 use Rattle.plans.proofs.Planning.{none_planned}
 use Rattle.plans.proofs.plan.Goals as goal
 

@@ -1,14 +1,8 @@
 -- The nodes' records and what they name are found once; the loop then plans one node after the other.
-use mathlib.Core.Path.{◌≡◌, refl, ◌∙◌}
+use mathlib.Core.Path.{◌≡◌}
 use Prim.Native.Nat.{◌-◌, ◌≤◌}
-use native.Mathlib.Numerals.{add-one}
-use native.Mathlib.Omega.{arith}
-use borrow.Author.Rules.{rules}
 use lib.ListN.{length}
-use Rattle.meanings.specs.Table.{nodes as nodes_of}
-use Rattle.tables.proofs.Sound.{sound_table}
 use Rattle.plans.specs.Plans.{PlannedTo}
-use Rattle.plans.proofs.Planning.{none_planned}
 use Rattle.plans.proofs.plan.Given as goal
 
 abbrev pub invariant-loop-v : goal.invariant-loop-v

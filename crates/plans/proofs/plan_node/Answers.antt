@@ -1,6 +1,5 @@
 -- Those alike and those touched by them are found; the three words are then written one after the other.
 use native.Mathlib.Omega.{arith}
-use borrow.Author.Rules.{rules}
 use lib.ListN.{length-set}
 use Rattle.plans.proofs.Planning.{few_nodes, one_planned}
 use Rattle.plans.proofs.plan_node.Goals as goal

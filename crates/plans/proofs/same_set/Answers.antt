@@ -1,14 +1,12 @@
 -- While the loop goes on, the records passed are written the same and neither set is at its end. Where both end together, the sets are
 -- written the same, and so alike.
-use mathlib.Core.Path.{◌≡◌, refl, sym, ◌∙◌}
-use mathlib.Core.Bool.{true, false}
-use Prim.Native.Nat.{ℕ, ◌+◌, ◌-◌, ◌<◌}
+use mathlib.Core.Path.{refl, sym, ◌∙◌}
+use mathlib.Core.Bool.{false}
+use Prim.Native.Nat.{◌+◌}
 use native.Mathlib.Omega.{arith}
-use borrow.Author.Rules.{rules}
 use borrow.Author.Count.{below_more}
 use Rattle.sets.proofs.Bools.{clash}
 use Rattle.meanings.specs.Table.{records}
-use Rattle.plans.specs.Alike.{same_record}
 use Rattle.plans.proofs.SameSets.{not-ended, same_alike}
 use Rattle.plans.proofs.same_set.Goals as goal
 

@@ -1,8 +1,5 @@
 -- The loop gathers the nodes passed that name any of `like`.
-use mathlib.Core.Logic.{⊎_elim}
-use Prim.Native.Nat.{◌-◌, ◌≤◌}
 use native.Mathlib.Omega.{arith}
-use Rattle.plans.specs.Named.{TouchedTo}
 use Rattle.plans.proofs.Planning.{touched_same, touched_more}
 use Rattle.plans.proofs.touched.Goals.{then-names-i-ne0, else-names-i-ne0}
 use Rattle.plans.proofs.touched.Goals as goal
@@ -30,8 +27,8 @@ loop-i-preserved c =
     let N = c.args.names.now in
     let v = c.loop-i.invariant in
     elim c.if-names-i-ne0.branch [
-      then-names-i-ne0 w ↦ (omega arith, rw (w.all-is, w.one-all.ensures) (touched_more N c.args.like c.loop-i.all c.loop-i.i v.1))
-    | else-names-i-ne0 w ↦ (omega arith, rw w.all-is (touched_same N c.args.like c.loop-i.all c.loop-i.i v.1 w.if-names-i-ne0.false))
+      | then-names-i-ne0 w ↦ (omega arith, rw (w.all-is, w.one-all.ensures) (touched_more N c.args.like c.loop-i.all c.loop-i.i v.1))
+      | else-names-i-ne0 w ↦ (omega arith, rw w.all-is (touched_same N c.args.like c.loop-i.all c.loop-i.i v.1 w.if-names-i-ne0.false))
     ]
 
 pub returns : goal.returns

@@ -1,9 +1,6 @@
 -- The loop gathers the nodes passed that name any of `like`.
-use mathlib.Core.Logic.{⊎_elim}
 use Prim.Native.Nat.{◌-◌, ◌≤◌}
-use native.Mathlib.Omega.{arith}
 use Rattle.plans.specs.Named.{TouchedTo}
-use Rattle.plans.proofs.Planning.{touched_same, touched_more}
 use Rattle.plans.proofs.touched.Given as goal
 
 abbrev pub invariant-loop-i : goal.invariant-loop-i

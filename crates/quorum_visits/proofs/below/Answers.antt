@@ -2,7 +2,6 @@
 use mathlib.Core.Path.{sym, subst}
 use mathlib.Core.Bool.{Bool}
 use Rattle.quorum_visits.specs.Visits.{Below, chosen_below}
-use borrow.Author.Rules.{rules}
 use Rattle.quorum_visits.proofs.below.Goals as goal
 
 pub returns-then-taken : goal.returns-then-taken

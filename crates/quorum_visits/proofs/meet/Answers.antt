@@ -1,6 +1,6 @@
 -- The tests in their order: nothing in reach, a set that has not grown, nodes that are still due.
 use mathlib.Core.Logic.{⊎_elim, inl, inr}
-use borrow.Author.Tests.{eqb-true, eqb-false}
+use borrow.Author.Tests.{eqb-true}
 use Rattle.sets.proofs.Bools.{not-holds, not_fails}
 use Rattle.quorum_visits.proofs.Laws.{is_dry, not-dry, is_quorum, still_waits}
 use Rattle.quorum_visits.proofs.meet.Goals as goal
@@ -26,9 +26,8 @@ returns-then-a-eq0-2 c =
     (⊎_elim (λ w. inl w) (λ w. inr w.1) c.then-a-eq0-2.either)
 
 pub returns : goal.returns
-returns c =
-    (
-      not-dry c.args.t.now c.args.plan.now c.args.d c.args.a c.requires c.if-a-eq0.false,
-      is_quorum c.args.t.now c.args.plan.now c.args.d c.args.a c.requires c.if-a-eq0.false c.unmet-left.result c.unmet-left.ensures.0 c.unmet-left.ensures.1
-          c.if-a-eq0-2.false (eqb-true c.unmet-left.result 0 (not_fails _ c.if-left-ne0.false-raw)),
-    )
+returns c = (
+  not-dry c.args.t.now c.args.plan.now c.args.d c.args.a c.requires c.if-a-eq0.false,
+  is_quorum c.args.t.now c.args.plan.now c.args.d c.args.a c.requires c.if-a-eq0.false c.unmet-left.result c.unmet-left.ensures.0 c.unmet-left.ensures.1
+      c.if-a-eq0-2.false (eqb-true c.unmet-left.result 0 (not_fails _ c.if-left-ne0.false-raw)),
+)

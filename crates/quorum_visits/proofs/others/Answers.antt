@@ -2,7 +2,6 @@
 use mathlib.Core.Path.{ap₂, ◌∙◌}
 use Prim.Native.Nat.{ℕ}
 use Rattle.sets.specs.Sets.{◌∖◌}
-use borrow.Author.Rules.{rules}
 use Rattle.quorum_visits.proofs.others.Goals as goal
 
 pub returns : goal.returns

@@ -7,7 +7,6 @@ use Rattle.sets.specs.Sets.{has, everyone, ◌∖◌}
 use Rattle.meanings.specs.Table.{nodes, satisfied}
 use Rattle.theory.proofs.Blocks.{itself, by_others}
 use Rattle.tables.proofs.Sound.{sound_table}
-use borrow.Author.Rules.{rules}
 use Rattle.quorums.proofs.blocked.Goals as goal
 
 pub contains-requires : goal.contains-requires

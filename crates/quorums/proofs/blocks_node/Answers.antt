@@ -7,7 +7,6 @@ use Rattle.meanings.specs.Table.{nodes}
 use Rattle.meanings.specs.Questions.{yes_or_no, blocks_reply}
 use Rattle.faults.proofs.Known.{fault_known}
 use Rattle.faults.proofs.Opening.{Passed, past_check, set_outside, then_outside, then_answered}
-use borrow.Author.Rules.{rules}
 use Rattle.quorums.proofs.blocks_node.Goals as goal
 
 pub returns-in_default : goal.returns-in_default

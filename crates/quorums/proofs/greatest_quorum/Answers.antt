@@ -1,11 +1,9 @@
 -- The table's faults first, then 8 for either set, each handed on whatever the answer would be; then the set and its rounds.
 use mathlib.Core.Path.{◌∙◌, ap}
-use Rattle.sets.specs.Sets.{within}
 use Rattle.meanings.specs.Questions.{greatest_reply}
 use Rattle.answers.specs.Said.{greatest_says}
 use Rattle.faults.proofs.Known.{fault_known}
 use Rattle.faults.proofs.Opening.{Passed, past_check, sets_outside, sets-answered, second_inside}
-use borrow.Author.Rules.{rules}
 use Rattle.quorums.proofs.greatest_quorum.Goals as goal
 
 pub returns-in_default : goal.returns-in_default
@@ -30,8 +28,7 @@ returns-then-not-inside c =
 pub greatest_of-requires : goal.greatest_of-requires
 greatest_of-requires c =
     let passed : Passed c.args.table.now c.in-Sound.nodes =
-    past_check c.args.table.now c.check_table-checked.result c.check_table-checked.ensures c.in-Sound.nodes c.in-Sound.records c.in-Sound.is in
-    (
+    past_check c.args.table.now c.check_table-checked.result c.check_table-checked.ensures c.in-Sound.nodes c.in-Sound.records c.in-Sound.is in (
       passed.checked,
       second_inside c.args.table.now c.in-Sound.nodes passed c.args.out c.args.within c.ranges.out.fits c.ranges.within.fits
           c.inside.result c.inside.ensures c.if-not-inside.false-raw,

@@ -3,7 +3,6 @@ use mathlib.Core.Path.{◌∙◌, ap}
 use Rattle.meanings.specs.Questions.{yes_or_no, quorum_reply}
 use Rattle.faults.proofs.Known.{fault_known}
 use Rattle.faults.proofs.Opening.{Passed, past_check, sets_outside, sets-answered, second_inside}
-use borrow.Author.Rules.{rules}
 use Rattle.quorums.proofs.is_quorum.Goals as goal
 
 pub returns-in_default : goal.returns-in_default
@@ -28,8 +27,7 @@ returns-then-not-inside c =
 pub quorum_of-requires : goal.quorum_of-requires
 quorum_of-requires c =
     let passed : Passed c.args.table.now c.in-Sound.nodes =
-    past_check c.args.table.now c.check_table-checked.result c.check_table-checked.ensures c.in-Sound.nodes c.in-Sound.records c.in-Sound.is in
-    (
+    past_check c.args.table.now c.check_table-checked.result c.check_table-checked.ensures c.in-Sound.nodes c.in-Sound.records c.in-Sound.is in (
       passed.checked,
       second_inside c.args.table.now c.in-Sound.nodes passed c.args.out c.args.set c.ranges.out.fits c.ranges.set.fits
           c.inside.result c.inside.ensures c.if-not-inside.false-raw,

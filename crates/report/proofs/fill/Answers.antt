@@ -1,5 +1,4 @@
 -- Either the buffer is too short, or all parts are put.
-use borrow.Author.Rules.{rules}
 use native.Mathlib.Omega.{arith}
 use Prim.Native.Nat.{◌+◌}
 use mathlib.Core.Path.{◌≡◌}

@@ -1,5 +1,4 @@
 -- The list's part follows from what it promises.
-use borrow.Author.Rules.{rules}
 use Rattle.report.proofs.Parts.{minimal_part_lem}
 use Rattle.report.proofs.minimal.Goals as goal
 

@@ -1,11 +1,9 @@
 -- The four answers and the lines made of them are the report.
-use borrow.Author.Rules.{rules}
 use native.Mathlib.Omega.{arith}
 use Prim.Native.Nat.{ℕ}
-use mathlib.Core.Path.{sym, subst}
+use mathlib.Core.Path.{subst}
 use mathlib.Core.List.{List}
 use lib.ListN.{length-take}
-use lib.Seq.{length-take-le}
 use Rattle.answers.specs.Said.{wrote_says}
 use Rattle.replies.specs.Shows.{Shows}
 use Rattle.sheets.specs.Promises.{Put}
@@ -13,11 +11,10 @@ use Rattle.report.proofs.Parts.{whole}
 use Rattle.report.proofs.report_table.Goals as goal
 
 pub fill-requires : goal.fill-requires
-fill-requires c =
-    (
-      omega (arith, length-take c.following-k.result c.minimal-m.new.sets, c.following-k.ensures, c.minimal-m.ensures.few),
-      omega (arith, length-take c.following-j.result c.blocking-b.new.sets, c.following-j.ensures, c.blocking-b.ensures.few),
-    )
+fill-requires c = (
+  omega (arith, length-take c.following-k.result c.minimal-m.new.sets, c.following-k.ensures, c.minimal-m.ensures.few),
+  omega (arith, length-take c.following-j.result c.blocking-b.new.sets, c.following-j.ensures, c.blocking-b.ensures.few),
+)
 
 pub returns : goal.returns
 returns c =

@@ -1,5 +1,4 @@
 -- The fields are those of the line.
-use borrow.Author.Rules.{rules}
 use mathlib.Core.Path.{◌≡◌, refl}
 use Rattle.words.specs.Words.{word_text}
 use Rattle.fields.specs.Fields.{field_text, texts, line_of}

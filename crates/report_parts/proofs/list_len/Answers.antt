@@ -1,5 +1,4 @@
 -- The length of the list's line and those of its sets.
-use borrow.Author.Rules.{rules}
 use native.Mathlib.Omega.{arith}
 use Prim.Native.Nat.{ℕ}
 use mathlib.Core.Path.{ap}

@@ -1,5 +1,4 @@
 -- The verdict's line goes right behind that of the nodes.
-use borrow.Author.Rules.{rules}
 use native.Mathlib.Omega.{arith}
 use Prim.Native.Nat.{ℕ, ◌+◌, ◌-◌, ◌≤◌}
 use mathlib.Core.List.{List, ◌++◌}

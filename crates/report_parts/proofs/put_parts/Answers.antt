@@ -1,5 +1,4 @@
 -- Each part goes right behind those before it.
-use borrow.Author.Rules.{rules}
 use native.Mathlib.Omega.{arith}
 use Prim.Native.Nat.{ℕ, ◌+◌, ◌-◌, ◌≤◌}
 use mathlib.Core.List.{List, ◌++◌, append_assoc}

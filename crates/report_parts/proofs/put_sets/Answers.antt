@@ -1,5 +1,4 @@
 -- What is written so far and the lines of the sets that are left are all the lines; each turn writes one set more.
-use borrow.Author.Rules.{rules}
 use native.Mathlib.Omega.{arith}
 use Prim.Native.Nat.{ℕ, ◌+◌, ◌-◌, ◌≤◌}
 use mathlib.Core.Path.{◌≡◌, refl, sym, ap, ◌∙◌, subst}
@@ -11,7 +10,6 @@ use Rattle.decimal.proofs.Place.{within, room, next, length_front}
 use Rattle.words.specs.Words.{word_text}
 use Rattle.report_lines.specs.Lines.{set_line, set_lines}
 use Rattle.report_parts.proofs.Sets.{next_set, length_next, no_set}
-use Rattle.report_parts.proofs.put_sets.Invariants.{Sofar}
 use Rattle.report_parts.proofs.put_sets.Goals as goal
 
 pub loop-i-init : goal.loop-i-init

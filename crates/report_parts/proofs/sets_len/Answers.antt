@@ -1,15 +1,12 @@
 -- What is counted so far and the lines of the sets that are left are as long as all; each turn counts one set more.
-use borrow.Author.Rules.{rules}
 use native.Mathlib.Omega.{arith}
 use native.Mathlib.Nat.{zero-add}
-use Prim.Native.Nat.{ℕ, ◌+◌, ◌-◌, ◌*◌, ◌≤◌}
+use Prim.Native.Nat.{ℕ, ◌≤◌}
 use mathlib.Core.Path.{◌≡◌, ap}
-use mathlib.Core.List.{List}
-use lib.ListN.{length, drop, get_or}
+use lib.ListN.{length, get_or}
 use Rattle.words.specs.Words.{word_text}
 use Rattle.report_lines.specs.Lines.{set_line, set_lines}
 use Rattle.report_parts.proofs.Sets.{length_next, no_set}
-use Rattle.report_parts.proofs.sets_len.Invariants.{Sofar}
 use Rattle.report_parts.proofs.sets_len.Goals as goal
 
 pub loop-i-init : goal.loop-i-init

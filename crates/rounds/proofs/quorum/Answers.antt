@@ -2,7 +2,6 @@
 use mathlib.Core.Path.{◌∙◌}
 use Rattle.meanings.specs.Table.{nodes, satisfied}
 use Rattle.theory.proofs.Tests.{no-nodes, counted_out, as_settled}
-use borrow.Author.Rules.{rules}
 use Rattle.rounds.proofs.quorum.Goals as goal
 
 pub returns-then-c-eq0 : goal.returns-then-c-eq0

@@ -4,7 +4,6 @@ use mathlib.Core.Path.{◌≡◌, sym, ap, ◌∙◌}
 use mathlib.Core.List.{List}
 use Rattle.meanings.specs.Table.{head_of, satisfies, satisfied}
 use Rattle.tables.proofs.Heads.{head_in}
-use borrow.Author.Rules.{rules}
 use Rattle.rounds.proofs.satisfied.Goals as goal
 
 pub enough-requires : goal.enough-requires

@@ -1,13 +1,11 @@
 -- Each node of c that is passed is satisfied; one that is not ends the walk.
-use mathlib.Core.Path.{◌≡◌, sym, ◌∙◌}
-use mathlib.Core.Bool.{true}
-use mathlib.Core.Logic.{⊎_elim}
-use Prim.Native.Nat.{ℕ, ◌-◌, ◌<◌, ◌≤◌}
+use mathlib.Core.Path.{sym, ◌∙◌}
+use Prim.Native.Nat.{ℕ}
 use native.Mathlib.Omega.{arith}
 use borrow.Author.Count.{below_more}
 use Rattle.sets.specs.Sets.{each}
-use Rattle.sets.proofs.Bools.{clash, fails, not-holds, not_fails}
-use Rattle.sets.proofs.Members.{In, has_below, each_at, at_each}
+use Rattle.sets.proofs.Bools.{clash, fails, not-holds}
+use Rattle.sets.proofs.Members.{has_below, each_at, at_each}
 use Rattle.meanings.specs.Table.{nodes as nodes_of, satisfied}
 use Rattle.tables.proofs.Sound.{sound_table}
 use Rattle.rounds.proofs.settled.Goals.{else-contains-via-then-contains+else-not-satisfied, else-contains-via-else-contains}
@@ -41,15 +39,14 @@ pub loop-v-smaller : goal.loop-v-smaller
 loop-v-smaller c = omega arith
 
 pub loop-v-preserved : goal.loop-v-preserved
-loop-v-preserved c =
-    (
-      omega arith,
-      below_more _ _ c.loop-v.invariant.1 (λ p.
-          elim c.else-contains.branch [
-            else-contains-via-then-contains+else-not-satisfied w ↦ sym w.satisfied.ensures ∙ w.if-not-satisfied.false
-          | else-contains-via-else-contains w ↦ clash c.contains.result (c.contains.ensures ∙ p) w.if-contains.false
-          ]),
-    )
+loop-v-preserved c = (
+  omega arith,
+  below_more _ _ c.loop-v.invariant.1 (λ p.
+      elim c.else-contains.branch [
+        | else-contains-via-then-contains+else-not-satisfied w ↦ sym w.satisfied.ensures ∙ w.if-not-satisfied.false
+        | else-contains-via-else-contains w ↦ clash c.contains.result (c.contains.ensures ∙ p) w.if-contains.false
+      ]),
+)
 
 pub returns : goal.returns
 returns c =

@@ -1,15 +1,13 @@
 -- The outer loop's invariant is that what is left of those present is the answer, and the rounds so far with those still to come the
 -- number; the inner walk gathers, node by node, those who stay. A round that is not the last leaves fewer, so the rounds end.
-use Prim.Native.Nat.{ℕ, ◌-◌, ◌≤◌}
+use Prim.Native.Nat.{ℕ}
 use native.Mathlib.Omega.{arith}
-use mathlib.Core.Path.{◌≡◌, refl, sym, ap₂, ◌∙◌, subst}
+use mathlib.Core.Path.{refl, sym, ap₂, ◌∙◌, subst}
 use mathlib.Core.Logic.{⊎_elim, inl, inr}
-use borrow.Author.Tests.{eqb-true, eqb-false}
-use Rattle.sets.specs.Sets.{◌∪◌, size, set_of}
-use Rattle.meanings.specs.Table.{nodes as nodes_of}
+use borrow.Author.Tests.{eqb-false}
+use Rattle.sets.specs.Sets.{◌∪◌, set_of}
 use Rattle.tables.proofs.Sound.{sound_table}
-use Rattle.rounds.proofs.Laws.{stays, one_stays, one_goes, gathered, Standing, none_left, start, last, fewer, again}
-use borrow.Author.Rules.{rules}
+use Rattle.rounds.proofs.Laws.{one_stays, one_goes, gathered, Standing, none_left, start, last, fewer, again}
 use Rattle.rounds.proofs.survivors.Goals.{then-contains+then-satisfied, else-contains, else-contains-via-then-contains+else-satisfied, else-contains-via-else-contains}
 use Rattle.rounds.proofs.survivors.Goals as goal
 
@@ -62,14 +60,14 @@ loop-v-preserved c =
     let k = c.loop-v.invariant.1 in (
       omega (arith, c.loop-v.invariant.0, c.if-v-nodes.false),
       elim c.if-contains.branch [
-        then-contains+then-satisfied w ↦
-          w.keep-is ∙ ap₂ ◌∪◌ k w.one-keep.ensures
-          ∙ one_stays t with present v (sym c.contains.ensures ∙ w.if-contains.true) (sym w.satisfied.ensures ∙ w.if-satisfied.true)
-      | else-contains w ↦
-          w.keep-is ∙ k ∙ one_goes t with present v (elim w.else-contains.branch [
-            else-contains-via-then-contains+else-satisfied x ↦ inr (sym x.satisfied.ensures ∙ x.if-satisfied.false)
-          | else-contains-via-else-contains x ↦ inl (sym c.contains.ensures ∙ x.if-contains.false)
-          ])
+        | then-contains+then-satisfied w ↦
+            w.keep-is ∙ ap₂ ◌∪◌ k w.one-keep.ensures
+            ∙ one_stays t with present v (sym c.contains.ensures ∙ w.if-contains.true) (sym w.satisfied.ensures ∙ w.if-satisfied.true)
+        | else-contains w ↦
+            w.keep-is ∙ k ∙ one_goes t with present v (elim w.else-contains.branch [
+              | else-contains-via-then-contains+else-satisfied x ↦ inr (sym x.satisfied.ensures ∙ x.if-satisfied.false)
+              | else-contains-via-else-contains x ↦ inl (sym c.contains.ensures ∙ x.if-contains.false)
+            ])
       ],
     )
 

@@ -1,15 +1,10 @@
 -- The outer loop's invariant is that what is left of those present is the answer, and the rounds so far with those still to come the
 -- number; the inner walk gathers, node by node, those who stay. A round that is not the last leaves fewer, so the rounds end.
-use Prim.Native.Nat.{ℕ, ◌-◌, ◌≤◌}
-use native.Mathlib.Omega.{arith}
-use mathlib.Core.Path.{◌≡◌, refl, sym, ap₂, ◌∙◌, subst}
-use mathlib.Core.Logic.{⊎_elim, inl, inr}
-use borrow.Author.Tests.{eqb-true, eqb-false}
-use Rattle.sets.specs.Sets.{◌∪◌, size, set_of}
+use Prim.Native.Nat.{◌-◌, ◌≤◌}
+use mathlib.Core.Path.{◌≡◌}
+use Rattle.sets.specs.Sets.{size, set_of}
 use Rattle.meanings.specs.Table.{nodes as nodes_of}
-use Rattle.tables.proofs.Sound.{sound_table}
-use Rattle.rounds.proofs.Laws.{stays, one_stays, one_goes, gathered, Standing, none_left, start, last, fewer, again}
-use borrow.Author.Rules.{rules}
+use Rattle.rounds.proofs.Laws.{stays, Standing}
 use Rattle.rounds.proofs.survivors.Given as goal
 
 abbrev pub invariant-loop-v : goal.invariant-loop-v

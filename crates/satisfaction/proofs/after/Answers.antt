@@ -1,7 +1,7 @@
 -- What a record gives, by how far below the set that is judged it stands.
 use native.Mathlib.Omega.{arith}
 use mathlib.Core.Path.{◌≡◌, sym, ap, ◌∙◌}
-use Prim.Native.Nat.{ℕ, suc, ◌+◌, ◌-◌, ◌<◌, ◌≤◌}
+use Prim.Native.Nat.{ℕ, suc, ◌+◌, ◌<◌}
 use mathlib.Core.Bool.{Bool}
 use borrow.Author.Tests.{lt-leb}
 use lib.Dec.{leb}
@@ -11,7 +11,6 @@ use Rattle.tables.proofs.Sound.{record_in}
 use Rattle.satisfaction.specs.Judged.{lack, still}
 use Rattle.satisfaction.specs.Wanted.{owed, comes}
 use Rattle.satisfaction.proofs.Walk.{bump-all, given_first, given_second, given_third, past_outer, past_inner, third_here}
-use borrow.Author.Rules.{rules}
 use Rattle.satisfaction.proofs.after.Goals as goal
 
 pub level-requires : goal.level-requires

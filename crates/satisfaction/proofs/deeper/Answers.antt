@@ -1,9 +1,9 @@
 -- Where it says no the walk over the inner sets ends at once: no record is left, or the next one is not below this. Where it says yes the next
 -- record is an inner set, which no unknown archive has.
 use native.Mathlib.Omega.{arith}
-use mathlib.Core.Path.{◌≡◌, refl}
+use mathlib.Core.Path.{refl}
 use mathlib.Core.Bool.{false}
-use Prim.Native.Nat.{ℕ, ◌+◌, ◌<◌, ◌≤◌}
+use Prim.Native.Nat.{◌+◌, ◌<◌, ◌≤◌}
 use borrow.Author.Tests.{ltb-false, ltb-true}
 use Rattle.sets.proofs.Bools.{clash}
 use Rattle.meanings.specs.Table.{records, level}

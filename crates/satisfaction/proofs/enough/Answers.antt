@@ -8,7 +8,6 @@ use Rattle.meanings.specs.Table.{members, threshold, level}
 use Rattle.tables.proofs.Sound.{record_in}
 use Rattle.satisfaction.specs.Judged.{lack, still}
 use Rattle.satisfaction.proofs.Laws.{judged_walk}
-use borrow.Author.Rules.{rules}
 use Rattle.satisfaction.proofs.enough.Goals as goal
 
 pub threshold-need-requires : goal.threshold-need-requires

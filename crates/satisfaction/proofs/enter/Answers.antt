@@ -1,9 +1,8 @@
 -- The set counts at once, or is the one that waits for its inner sets from here on.
 use native.Mathlib.Omega.{arith}
-use mathlib.Core.Path.{◌≡◌, sym, ap, ap₂, ◌∙◌}
-use Prim.Native.Nat.{ℕ, suc, ◌+◌, ◌-◌, ◌<◌}
+use mathlib.Core.Path.{◌∙◌}
+use Prim.Native.Nat.{◌-◌, ◌<◌}
 use Rattle.satisfaction.proofs.Walk.{same_counters, enter_met, enter_short}
-use borrow.Author.Rules.{rules}
 use Rattle.satisfaction.proofs.enter.Goals as goal
 
 pub returns-then-short-eq0 : goal.returns-then-short-eq0

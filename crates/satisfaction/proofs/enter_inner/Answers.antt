@@ -1,9 +1,8 @@
 -- The same one level further down.
 use native.Mathlib.Omega.{arith}
-use mathlib.Core.Path.{◌≡◌, sym, ap, ap₂, ◌∙◌}
-use Prim.Native.Nat.{ℕ, suc, ◌+◌, ◌-◌, ◌<◌}
+use mathlib.Core.Path.{◌∙◌}
+use Prim.Native.Nat.{◌<◌}
 use Rattle.satisfaction.proofs.Walk.{same_counters, inner_met, inner_short}
-use borrow.Author.Rules.{rules}
 use Rattle.satisfaction.proofs.enter_inner.Goals as goal
 
 pub returns-then-short-eq0 : goal.returns-then-short-eq0

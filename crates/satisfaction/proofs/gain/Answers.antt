@@ -1,9 +1,7 @@
 -- One that was wanted has come.
-use native.Mathlib.Omega.{arith}
-use mathlib.Core.Path.{◌≡◌, sym, ap, ap₂, ◌∙◌}
-use Prim.Native.Nat.{ℕ, suc, ◌+◌, ◌-◌, ◌<◌}
+use mathlib.Core.Path.{◌∙◌}
+use Prim.Native.Nat.{◌-◌}
 use Rattle.satisfaction.proofs.Walk.{same_counters, gain_last, gain_next}
-use borrow.Author.Rules.{rules}
 use Rattle.satisfaction.proofs.gain.Goals as goal
 
 pub returns-then-inner-eq1 : goal.returns-then-inner-eq1

@@ -1,7 +1,7 @@
 -- What the sets that the walk stands in get from the records to come is what the set that is judged gets from all of them.
 use native.Mathlib.Omega.{arith}
 use mathlib.Core.Path.{◌≡◌, sym, ap, ◌∙◌}
-use Prim.Native.Nat.{ℕ, suc, ◌+◌, ◌-◌, ◌<◌, ◌≤◌}
+use Prim.Native.Nat.{ℕ, suc, ◌+◌, ◌<◌, ◌≤◌}
 use lib.Dec.{leb}
 use Rattle.meanings.specs.Table.{records, level}
 use Rattle.tables.proofs.Runs.{from_end, from_stop}
@@ -9,7 +9,6 @@ use Rattle.tables.proofs.Sound.{record_in, sound_table}
 use Rattle.satisfaction.specs.Judged.{holds, still}
 use Rattle.satisfaction.specs.Wanted.{comes, left}
 use Rattle.satisfaction.proofs.Walk.{comes_outer, comes-all, same_counters, left-none}
-use borrow.Author.Rules.{rules}
 use Rattle.satisfaction.proofs.inner_enough.Goals as goal
 
 pub level-above-requires : goal.level-above-requires

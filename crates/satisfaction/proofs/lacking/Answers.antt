@@ -1,10 +1,8 @@
 -- The threshold against the members that are in u.
-use native.Mathlib.Omega.{arith}
-use mathlib.Core.Path.{◌≡◌, sym, ap, ap₂, ◌∙◌}
-use Prim.Native.Nat.{ℕ, suc, ◌+◌, ◌-◌, ◌<◌}
+use mathlib.Core.Path.{ap₂, ◌∙◌}
+use Prim.Native.Nat.{ℕ, ◌-◌}
 use Rattle.sets.specs.Sets.{size, ◌∩◌}
 use Rattle.tables.proofs.Sound.{record_in}
-use borrow.Author.Rules.{rules}
 use Rattle.satisfaction.proofs.lacking.Goals as goal
 
 pub members-requires : goal.members-requires

@@ -1,10 +1,9 @@
 -- Some member is in u and the members are enough; or there is nothing else to count; or the inner sets are walked. Where nothing is wanting and no
 -- member is in u the archive is unknown, which has no inner sets.
 use mathlib.Core.Path.{◌≡◌, sym, ap, ◌∙◌}
-use mathlib.Core.Logic.{⊎_elim}
 use Prim.Native.Nat.{ℕ, ◌+◌, ◌<◌}
 use native.Mathlib.Omega.{arith}
-use borrow.Author.Tests.{le-leb, eqb-true, eqb-false}
+use borrow.Author.Tests.{le-leb, eqb-false}
 use lib.Dec.{leb, eqb}
 use Rattle.sets.specs.Sets.{◌∩◌}
 use Rattle.sets.proofs.Bools.{not-holds, not_fails}
@@ -13,7 +12,6 @@ use Rattle.tables.proofs.Sound.{record_in}
 use Rattle.satisfaction.specs.Judged.{lack, still}
 use Rattle.satisfaction.proofs.Suffice.{member_known}
 use Rattle.satisfaction.proofs.Laws.{judged_walk, judged_flat, wanting}
-use borrow.Author.Rules.{rules}
 use Rattle.satisfaction.proofs.satisfies.Goals.{else-wanted-eq0-via-then-wanted-eq0+else-members-u-ne0, else-wanted-eq0-via-else-wanted-eq0}
 use Rattle.satisfaction.proofs.satisfies.Goals as goal
 
@@ -35,8 +33,8 @@ returns-then-not-deeper c =
     let short : lack c.args.t.now c.args.u c.args.r ≡ 0 → members c.args.t.now c.args.r ∩ c.args.u ≡ 0 = λ e.
     let u = c.args.u in
     elim c.else-wanted-eq0.branch [
-      else-wanted-eq0-via-then-wanted-eq0+else-members-u-ne0 w ↦ ap (λ (m : ℕ). m ∩ u) (sym w.members.ensures.0) ∙ w.if-members-u-ne0.false
-    | else-wanted-eq0-via-else-wanted-eq0 w ↦ absurd (w.if-wanted-eq0.false (c.lacking-wanted.ensures ∙ e))
+      | else-wanted-eq0-via-then-wanted-eq0+else-members-u-ne0 w ↦ ap (λ (m : ℕ). m ∩ u) (sym w.members.ensures.0) ∙ w.if-members-u-ne0.false
+      | else-wanted-eq0-via-else-wanted-eq0 w ↦ absurd (w.if-wanted-eq0.false (c.lacking-wanted.ensures ∙ e))
     ] in
     let t = c.args.t.now in
     let u = c.args.u in
@@ -49,8 +47,8 @@ inner_enough-requires c =
     let short : lack c.args.t.now c.args.u c.args.r ≡ 0 → members c.args.t.now c.args.r ∩ c.args.u ≡ 0 = λ e.
     let u = c.args.u in
     elim c.else-wanted-eq0.branch [
-      else-wanted-eq0-via-then-wanted-eq0+else-members-u-ne0 w ↦ ap (λ (m : ℕ). m ∩ u) (sym w.members.ensures.0) ∙ w.if-members-u-ne0.false
-    | else-wanted-eq0-via-else-wanted-eq0 w ↦ absurd (w.if-wanted-eq0.false (c.lacking-wanted.ensures ∙ e))
+      | else-wanted-eq0-via-then-wanted-eq0+else-members-u-ne0 w ↦ ap (λ (m : ℕ). m ∩ u) (sym w.members.ensures.0) ∙ w.if-members-u-ne0.false
+      | else-wanted-eq0-via-else-wanted-eq0 w ↦ absurd (w.if-wanted-eq0.false (c.lacking-wanted.ensures ∙ e))
     ] in
     let some : 0 < c.lacking-wanted.result =
     let t = c.args.t.now in

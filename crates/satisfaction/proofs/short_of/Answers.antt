@@ -6,7 +6,6 @@ use Rattle.sets.specs.Sets.{size, ◌∩◌}
 use Rattle.sets.proofs.Members.{∩-lt}
 use Rattle.sets.proofs.Size.{size-nobody}
 use Rattle.satisfaction.proofs.Two.{lowest_lost, only_one, two_or_more}
-use borrow.Author.Rules.{rules}
 use Rattle.satisfaction.proofs.short_of.Goals as goal
 
 pub returns-then-m-eq0 : goal.returns-then-m-eq0

@@ -1,5 +1,4 @@
 -- Either the sheet is too short, or the whole text is put.
-use borrow.Author.Rules.{rules}
 use native.Mathlib.Omega.{arith}
 use Rattle.sheets.specs.Sheets.{sheet_text}
 use Rattle.sheets.proofs.Filling.{too_short, put}

@@ -1,5 +1,4 @@
 -- Either the table is too short, or the words are put.
-use borrow.Author.Rules.{rules}
 use Rattle.sheets.proofs.Filling.{too_short, put}
 use Rattle.sheets.proofs.fill_table.Goals as goal
 

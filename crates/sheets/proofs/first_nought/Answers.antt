@@ -1,5 +1,4 @@
 -- A line before comes first; without one it is this line, or none.
-use borrow.Author.Rules.{rules}
 use Prim.Native.Nat.{ℕ, zero, suc}
 use mathlib.Core.Path.{◌≡◌, refl}
 use Rattle.sheets.specs.Sheets.{earlier}

@@ -1,16 +1,15 @@
 -- The text from the record that is reached is still to be written, at the place `at`; each line moves both on, and in the end nothing is
 -- left to write.
-use borrow.Author.Rules.{rules}
 use native.Mathlib.Omega.{arith}
 use native.Mathlib.Nat.{zero-add}
 use Prim.Native.Nat.{ℕ, ◌+◌, ◌-◌, ◌*◌, ◌≤◌, ◌<◌}
 use mathlib.Core.Path.{◌≡◌, refl, sym, ap, ◌∙◌}
 use mathlib.Core.List.{List}
 use lib.ListN.{length, take, drop, length-drop}
-use Rattle.decimal.specs.Bytes.{at_front, Written}
+use Rattle.decimal.specs.Bytes.{Written}
 use Rattle.decimal.proofs.Order.{rest}
 use Rattle.decimal.proofs.Place.{at_place}
-use Rattle.meanings.specs.Table.{records, level, threshold, members}
+use Rattle.meanings.specs.Table.{records}
 use Rattle.lines.specs.Lines.{line_text}
 use Rattle.tables.proofs.Sound.{record_in}
 use Rattle.sheets.specs.Sheets.{sheet_text}

@@ -1,20 +1,13 @@
 -- The text from the record that is reached is still to be written, at the place `at`; each line moves both on, and in the end nothing is
 -- left to write.
-use borrow.Author.Rules.{rules}
-use native.Mathlib.Omega.{arith}
-use native.Mathlib.Nat.{zero-add}
-use Prim.Native.Nat.{ℕ, ◌+◌, ◌-◌, ◌*◌, ◌≤◌, ◌<◌}
-use mathlib.Core.Path.{◌≡◌, refl, sym, ap, ◌∙◌}
-use mathlib.Core.List.{List}
-use lib.ListN.{length, take, drop, length-drop}
-use Rattle.decimal.specs.Bytes.{at_front, Written}
-use Rattle.decimal.proofs.Order.{rest}
+use Prim.Native.Nat.{◌+◌, ◌-◌, ◌≤◌}
+use mathlib.Core.Path.{◌≡◌}
+use lib.ListN.{length}
+use Rattle.decimal.specs.Bytes.{at_front}
 use Rattle.decimal.proofs.Place.{at_place}
-use Rattle.meanings.specs.Table.{records, level, threshold, members}
-use Rattle.lines.specs.Lines.{line_text}
-use Rattle.tables.proofs.Sound.{record_in}
+use Rattle.meanings.specs.Table.{records}
 use Rattle.sheets.specs.Sheets.{sheet_text}
-use Rattle.sheets.proofs.Writing.{record_text, text_from, next_line, length_next, no_line, past_end, same_room, goes_on, nothing_left}
+use Rattle.sheets.proofs.Writing.{text_from}
 use Rattle.sheets.proofs.put_lines.Given as goal
 
 abbrev pub invariant-loop-line : goal.invariant-loop-line

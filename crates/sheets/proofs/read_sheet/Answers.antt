@@ -1,5 +1,4 @@
 -- What stops the lines is handed on, and so is a fault of their records; the words of a sound table are put.
-use borrow.Author.Rules.{rules}
 use Prim.Native.Nat.{◌≤◌}
 use mathlib.Core.Path.{◌≡◌, sym}
 use lib.ListN.{length, take}

@@ -1,14 +1,10 @@
 -- The lines before record r take `need` bytes, so with the text from r on they are the whole text; no line has more than 188 bytes.
-use borrow.Author.Rules.{rules}
-use native.Mathlib.Omega.{arith}
-use native.Mathlib.Nat.{zero-add}
-use Prim.Native.Nat.{◌+◌, ◌-◌, ◌*◌, ◌≤◌, ◌<◌}
-use mathlib.Core.Path.{◌≡◌, ap}
+use Prim.Native.Nat.{◌+◌, ◌-◌, ◌*◌, ◌≤◌}
+use mathlib.Core.Path.{◌≡◌}
 use lib.ListN.{length}
-use Rattle.meanings.specs.Table.{records, level, threshold, members}
-use Rattle.tables.proofs.Sound.{record_in}
+use Rattle.meanings.specs.Table.{records}
 use Rattle.sheets.specs.Sheets.{sheet_text}
-use Rattle.sheets.proofs.Writing.{record_text, text_from, length_next, no_line, few_records, past_end, short_line}
+use Rattle.sheets.proofs.Writing.{text_from}
 use Rattle.sheets.proofs.sheet_len.Given as goal
 
 abbrev pub invariant-loop-r : goal.invariant-loop-r

@@ -1,15 +1,9 @@
 -- The words of the records read stand at the front and their first written 0 is known, and the lines from here on come, behind them, to what all lines come
 -- to.
-use borrow.Author.Rules.{rules}
-use native.Mathlib.Omega.{arith}
-use Prim.Native.Nat.{◌+◌, ◌-◌, ◌≤◌, ◌<◌}
-use mathlib.Core.Path.{◌≡◌, refl, sym, ◌∙◌}
-use lib.ListN.{length, drop, length-drop}
-use Rattle.lines.specs.Lines.{read_line}
-use Rattle.lines.specs.declared.Line.TheVariants.{Good}
-use Rattle.lines.proofs.Round.{written_read}
-use Rattle.sheets.specs.Sheets.{sheet_lines}
-use Rattle.sheets.proofs.Taking.{TakenUpTo, all_taken, surplus, malformed, one_more, line-some, before_nothing, length_record}
+use Prim.Native.Nat.{◌-◌, ◌≤◌}
+use mathlib.Core.Path.{◌≡◌}
+use lib.ListN.{length}
+use Rattle.sheets.proofs.Taking.{TakenUpTo}
 use Rattle.sheets.proofs.take_lines.Given as goal
 
 abbrev pub invariant-loop-at : goal.invariant-loop-at

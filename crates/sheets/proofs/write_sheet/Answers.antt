@@ -1,5 +1,4 @@
 -- A fault of the table is handed on, and a sound table is put.
-use borrow.Author.Rules.{rules}
 use lib.ListN.{length}
 use Rattle.meanings.specs.Faults.{check, sound}
 use Rattle.meanings.specs.Questions.{on_check}

@@ -6,7 +6,6 @@ use Rattle.meanings.specs.Trees.{Walk, Pair, walk, then_walk}
 use Rattle.verdict.specs.Search.{Looked, Splitting, tree_of, within}
 use Rattle.verdict.proofs.Allowance.{all_spent, yes_here, no_here, stuck_here, first_ends, second_ends}
 use Rattle.verdict.proofs.Split.{no_choice, ready, fewer, parts, not_yes}
-use borrow.Author.Rules.{rules}
 use Prim.Native.Nat.{ℕ, ◌<◌}
 use Rattle.verdict.proofs.+search.Goals as goal
 
@@ -31,8 +30,7 @@ returns-then-on-eq0 t c =
 pub below-without-requires : goal.below-without-requires
 below-without-requires t c =
     let split : Splitting c.args.t.now c.args.q.d c.args.a c.in-Split.due =
-    subst (Looked c.args.t.now c.args.q.d c.args.a) c.in-Split.is c.look-step.ensures in
-    (
+    subst (Looked c.args.t.now c.args.q.d c.args.a) c.in-Split.is c.look-step.ensures in (
       c.requires.stands,
       ready c.args.t.now c.args.plan.now c.args.q.d c.args.a c.requires.stands c.in-Split.due split c.without-on.result c.without-on.ensures
           c.if-on-eq0.false c.first-v.result c.first-v.ensures.0,
@@ -69,8 +67,7 @@ returns-in_default t c =
 pub below-with-requires : goal.below-with-requires
 below-with-requires t c =
     let split : Splitting c.args.t.now c.args.q.d c.args.a c.in-Split.due =
-    subst (Looked c.args.t.now c.args.q.d c.args.a) c.in-Split.is c.look-step.ensures in
-    (
+    subst (Looked c.args.t.now c.args.q.d c.args.a) c.in-Split.is c.look-step.ensures in (
       c.requires.stands,
       ready c.args.t.now c.args.plan.now c.args.q.d c.args.a c.requires.stands c.in-Split.due split c.without-on.result c.without-on.ensures
           c.if-on-eq0.false c.first-v.result c.first-v.ensures.0,

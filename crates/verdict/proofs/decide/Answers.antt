@@ -2,7 +2,6 @@
 use native.Mathlib.Omega.{arith}
 use Rattle.verdict.proofs.Root.{ground_of}
 use Rattle.tables.proofs.Sound.{sound_table}
-use borrow.Author.Rules.{rules}
 use Rattle.verdict.proofs.decide.Goals as goal
 
 pub plan-requires : goal.plan-requires

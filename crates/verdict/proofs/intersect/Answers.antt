@@ -7,7 +7,6 @@ use Rattle.answers.specs.Said.{verdict_says}
 use Rattle.faults.proofs.Known.{fault_known}
 use Rattle.faults.proofs.Opening.{Passed, past_check, set_outside, set_answered}
 use Rattle.verdict.proofs.Meaning.{says_within, kept_bad, kept_outside, kept_search}
-use borrow.Author.Rules.{rules}
 use Rattle.verdict.proofs.intersect.Goals as goal
 
 pub returns-in_default : goal.returns-in_default

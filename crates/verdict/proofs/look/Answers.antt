@@ -13,7 +13,6 @@ use Rattle.greatest.proofs.Laws.{holding-nobody}
 use Rattle.quorum_visits.specs.Visits.{dry, MetIs}
 use Rattle.verdict.proofs.Looks.{over_half_lem, over, not_over, dry_leaf, alone, apart}
 use Rattle.verdict.proofs.Root.{ground_due}
-use borrow.Author.Rules.{rules}
 use Rattle.verdict.proofs.look.Goals as goal
 
 pub returns-then-q-count : goal.returns-then-q-count

@@ -9,7 +9,6 @@ use Rattle.tables.proofs.Sound.{sound_table}
 use Rattle.quorum_visits.specs.declared.Visit.{Visit}
 use Rattle.verdict.specs.Search.{tree_of, within}
 use Rattle.verdict.proofs.Root.{ground-apart}
-use borrow.Author.Rules.{rules}
 use Rattle.verdict.proofs.search_from.Goals as goal
 
 pub root-root-requires : goal.root-root-requires

@@ -1,5 +1,4 @@
 -- The word of each number is copied to the front.
-use borrow.Author.Rules.{rules}
 use Rattle.words.specs.Words.{word_text}
 use Rattle.words.proofs.Laws.{word_fits, word_copied, no_word}
 use Rattle.words.proofs.put_word.Goals as goal
