@@ -11,8 +11,8 @@ use lib.ListN.{length, take, drop, get_or, length-append, length-take, length-dr
 use lib.Seq.{get_or-drop, paste, drop-paste, length-take-le, take-add, take-append_seam, drop-append_seam, drop-append-le, drop-append-add}
 use borrow.Rule.Slice.PartMut.{put_mid}
 use Rattle.sets.proofs.Bools.{either}
-use Rattle.input.specs.declared.Got.{Got}
-use Rattle.input.specs.declared.Got.TheVariants as Gx
+use Rattle.std.specs.Prelude.{Result, Ok, Err}
+use Rattle.std.specs.declared.io.Error.{Error}
 use Rattle.input.specs.Reading.{Within}
 use Rattle.lines.specs.Lines.{read_line}
 use Rattle.lines.specs.declared.Line.{Line}
@@ -36,11 +36,7 @@ use Rattle.sheets.proofs.Taking.{TakenUpTo, all_taken, surplus, malformed, one_m
 use Rattle.sheets.proofs.Filling.{refused_fault, read_stops, read_goes, put}
 use Rattle.sheets.proofs.Bounds.{used_most, line_longer, line_cut}
 use Rattle.intake.specs.declared.Window.{Window}
-use Rattle.intake.specs.declared.Window.TheVariants as Wx
 use Rattle.intake.specs.declared.Heard.{Heard}
-use Rattle.intake.specs.declared.Heard.TheVariants as Hx
-use Rattle.intake.specs.declared.Taken.{Taken}
-use Rattle.intake.specs.declared.Taken.TheVariants as Tx
 use Rattle.intake.specs.Intake.{FitsIn, filled_is, Widens, UpTo, Lines, Hears, WasRead, TakesIn}
 
 -- what is put back in the place of the end of a list is as long as that
@@ -174,30 +170,30 @@ grown len n b a h e =
 
 -- what was read behind the bytes in hand has room, and makes a window
 module _ (len : ℕ) (b a part : List ℕ) (h : len ≤ 512) (n : length part ≡ 512 - len) where
-  pub read_fits : (got : Got) → Within got part → FitsIn len got
+  pub read_fits : (got : Result ℕ Error) → Within got part → FitsIn len got
   unfolding FitsIn
-  read_fits (Gx.Bytes count) w = omega (arith, w.0)
-  read_fits Gx.Failed w = tt
+  read_fits (Ok count) w = omega (arith, w)
+  read_fits (Err error) w = tt
 
-  pub read_widens : (got : Got) → Within got part → length a ≡ 512 → take len a ≡ take len b → Widens len b a (filled_is len got)
+  pub read_widens : (got : Result ℕ Error) → Within got part → length a ≡ 512 → take len a ≡ take len b → Widens len b a (filled_is len got)
   unfolding Widens filled_is
-  read_widens (Gx.Bytes count) w l e = (omega arith, omega (arith, w.0), l, e, λ f. let g = ltb-false (len + count) 512 f in omega arith)
-  read_widens Gx.Failed w l e = tt
+  read_widens (Ok count) w l e = (omega arith, omega (arith, w), l, e, λ f. let g = ltb-false (len + count) 512 f in omega arith)
+  read_widens (Err error) w l e = tt
 
-pub fits_bytes : (len : ℕ) (got : Got) (count : ℕ) → FitsIn len got → got ≡ Gx.Bytes count → len + count ≤ 512
+pub fits_bytes : (len : ℕ) (got : Result ℕ Error) (count : ℕ) → FitsIn len got → got ≡ Ok count → len + count ≤ 512
 unfolding FitsIn
 fits_bytes len got count h e = subst (FitsIn len) e h
 
 -- a window that was told to have so many bytes
-pub widened : (len : ℕ) (b a : List ℕ) (x : Window) (n : ℕ) (ended : Bool) → Widens len b a x → x ≡ Wx.Bytes n ended
-    → (len ≤ n) × (n ≤ 512) × (length a ≡ 512) × (take len a ≡ take len b) × (ended ≡ false → 188 ≤ n)
+pub widened : (len : ℕ) (b a : List ℕ) (w : Window) → Widens len b a (Ok w)
+    → (len ≤ w.count) × (w.count ≤ 512) × (length a ≡ 512) × (take len a ≡ take len b) × (w.ended ≡ false → 188 ≤ w.count)
 unfolding Widens
-widened len b a x n ended w e = subst (Widens len b a) e w
+widened len b a w h = h
 
 -- ---- what the lines came to is the answer, or checking them is
-pub heard : (a : List ℕ) (h : Heard) (r : Read) (x : ℕ) (ended : Bool) (bytes : ℕ) → Hears a h → h ≡ Hx.Told r x ended bytes → Lines a r x ended
+pub heard : (a : List ℕ) (h : Heard) → Hears a (Ok h) → Lines a h.read h.nought h.ended
 unfolding Hears
-heard a h r x ended bytes p e = subst (Hears a) e p
+heard a h l = l
 
 -- the sheet with nothing behind it
 abbrev pub whole : {o : List ℕ} {r : Read} {x : ℕ} {ended : Bool} → Lines o r x ended → List ℕ
@@ -244,6 +240,6 @@ module _ (s o room : List ℕ) (n : length room ≡ 512) (x : ℕ) where
         }
 
 -- as whoever takes it in learns it
-pub taken_in : (a : List ℕ) (x : Taken) (r : Read) → TakesIn a x → x ≡ Tx.Sheet r → WasRead r a
+pub taken_in : (a : List ℕ) (x : Result Read Error) (r : Read) → TakesIn a x → x ≡ Ok r → WasRead r a
 unfolding TakesIn
 taken_in a x r h e = subst (TakesIn a) e h
