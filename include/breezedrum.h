@@ -19,7 +19,7 @@
  * lent buffer belongs to one call until it returns.
  *
  * Stack (bench/stack): at most 59,272 bytes were measured for a report, 37,288 for a list, 25,048 for a verdict or the intact nodes, 4,560
- * for reading a sheet, 800 for anything else, on tables of 64 nodes and 256 records whose searches go as deep as they can: the depth is
+ * for reading a sheet, 816 for anything else, on tables of 64 nodes and 256 records whose searches go as deep as they can: the depth is
  * bounded by the nodes, whatever the allowance. A thread with 96 KiB of stack is enough for a report, one with 64 KiB for all the others.
  *
  *   number  when                                                   also given
