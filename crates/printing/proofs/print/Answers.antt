@@ -1,13 +1,11 @@
 -- Six fields take at most 1,092 bytes, so the line fits; what is handed over is the line.
 use native.Mathlib.Omega.{arith}
-use Prim.Native.Nat.{ℕ, ◌+◌, ◌^◌, ◌≤◌, ◌<◌}
-use mathlib.Core.Path.{◌≡◌, sym}
-use lib.ListN.{length, get_or, length-take}
-use lib.Seq.{length-take-le}
+use Prim.Native.Nat.{ℕ, ◌^◌, ◌<◌}
+use lib.ListN.{get_or}
 use Rattle.fields.specs.Fields.{line_of}
 use Rattle.fields.proofs.Laws.{line_most}
 use Rattle.printing.specs.Printing.{Handed}
-use Rattle.printing.proofs.Laws.{front_taken, handed_none, handed_up}
+use Rattle.printing.proofs.Laws.{handed_none, handed_up}
 use Rattle.printing.proofs.print.Goals as goal
 
 pub put_line-k-requires : goal.put_line-k-requires

@@ -3,7 +3,6 @@ use native.Mathlib.Omega.{arith}
 use Prim.Native.Nat.{ℕ}
 use mathlib.Core.Path.{◌≡◌, sym, ap, ◌∙◌}
 use lib.ListN.{take, length-take}
-use lib.Seq.{length-take-le}
 use Rattle.words.specs.Words.{word_text}
 use Rattle.words.specs.Words as word
 use Rattle.report_parts.specs.Parts.{list_text}

@@ -4,7 +4,7 @@ use mathlib.Core.Path.{sym, ◌∙◌, subst}
 use mathlib.Core.List.{List}
 use Rattle.report_lines.proofs.Told.{refused-told}
 use Rattle.printing.specs.Printing.{All}
-use Rattle.printing.proofs.From.{from_sheet, from-refused, from_words, words_sheet, words_in}
+use Rattle.printing.proofs.From.{from_sheet, from-refused, from_words, words_sheet}
 use Rattle.printing.proofs.show_read.Goals as goal
 
 pub show_refused-requires : goal.show_refused-requires

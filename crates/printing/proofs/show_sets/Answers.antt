@@ -1,7 +1,7 @@
 -- What is left of the lines stands behind what is handed over; each turn hands one line more over.
 use native.Mathlib.Omega.{arith}
-use Prim.Native.Nat.{ℕ, ◌+◌, ◌-◌, ◌*◌, ◌≤◌}
-use mathlib.Core.Path.{◌≡◌, refl, sym, ap}
+use Prim.Native.Nat.{ℕ, ◌+◌, ◌≤◌}
+use mathlib.Core.Path.{◌≡◌, sym, ap}
 use mathlib.Core.List.{List, ◌++◌}
 use lib.ListN.{length, drop, get_or}
 use Rattle.words.specs.Words.{word_text}
@@ -10,7 +10,6 @@ use Rattle.report.specs.Report.{report_on}
 use Rattle.report_parts.proofs.Sets.{next_set, length_next, no_set}
 use Rattle.printing.specs.Printing.{Stands, Handed}
 use Rattle.printing.proofs.Laws.{stands_as, stands_first, stands_second, handed_none, handed_up, handed_as}
-use Rattle.printing.proofs.show_sets.Invariants.{Sofar}
 use Rattle.printing.proofs.show_sets.Goals as goal
 
 pub show-requires : goal.show-requires
