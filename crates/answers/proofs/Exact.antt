@@ -1,27 +1,17 @@
--- Two answers that say the same are the same: from what an answer says, the answer can be read back.
-use mathlib.Core.Path.{◌≡◌, refl, sym, ap, ◌∙◌}
-use mathlib.Core.Bool.{Bool, true, false, ◌&&◌}
-use lib.Dec.{eqb, leb}
+-- Two answers that say the same are the same: an answer has number 0 and a refusal never has, and from what either says it can be read back.
+use Rattle.std.proofs.Common.{◌≡◌, refl, sym, ap, ◌∙◌, Bool, true, false, ℕ, Result, Ok, Err, eqb}
 use Rattle.meanings.specs.Replies.{Reply, value, Place, Nodes, Records, Answer, Set, Rounds, First, Second, Count, Visits}
 use Rattle.answers.specs.declared.Fault.{Fault}
 use Rattle.answers.specs.declared.Fault.TheVariants as Fx
-use Rattle.answers.specs.declared.Checked.{Checked}
-use Rattle.answers.specs.declared.Checked.TheVariants as Cx
-use Rattle.answers.specs.declared.Read.{Read}
-use Rattle.answers.specs.declared.Read.TheVariants as Rx
-use Rattle.answers.specs.declared.Wrote.{Wrote}
-use Rattle.answers.specs.declared.Wrote.TheVariants as Wx
-use Rattle.answers.specs.declared.Judged.{Judged}
-use Rattle.answers.specs.declared.Judged.TheVariants as Jx
+use Rattle.answers.specs.declared.Refusal.{Refusal}
+use Rattle.answers.specs.declared.Refusal.TheVariants as Xx
+use Rattle.answers.specs.declared.Size.{Size}
 use Rattle.answers.specs.declared.Greatest.{Greatest}
-use Rattle.answers.specs.declared.Greatest.TheVariants as Gx
 use Rattle.answers.specs.declared.Verdict.{Verdict}
 use Rattle.answers.specs.declared.Verdict.TheVariants as Vx
 use Rattle.answers.specs.declared.Listed.{Listed}
-use Rattle.answers.specs.declared.Listed.TheVariants as Lx
 use Rattle.answers.specs.declared.Intact.{Intact}
-use Rattle.answers.specs.declared.Intact.TheVariants as Ix
-use Rattle.answers.specs.Said.{fault_says, checked_says, read_says, wrote_says, judged_says, greatest_says, verdict_says, listed_says, intact_says}
+use Rattle.answers.specs.Said.{fault_says, refusal_says, size_says, count_says, yes_says, set_says, decision_says, sets_say, well_says, either, checked_says, read_says, wrote_says, judged_says, greatest_says, verdict_says, listed_says, intact_says}
 
 module _ {A : Type 0} where
   abbrev pick : Bool → A → A → A
@@ -32,6 +22,7 @@ module _ {A : Type 0} where
   pub told_back : (says : A → Reply) (back : Reply → A) → ((x : A) → back (says x) ≡ x) → (x y : A) → says x ≡ says y → x ≡ y
   told_back says back f x y e = sym (f x) ∙ ap back e ∙ f y
 
+-- ---- why a question is not answered
 abbrev fault_from : Reply → Fault
 fault_from r =
     let p = value r Place in
@@ -47,126 +38,137 @@ fault_back (Fx.Threshold p) = refl
 fault_back (Fx.Member p) = refl
 fault_back (Fx.Entries p) = refl
 
--- an answer that may be a fault: numbers 1 to 7 are read back as one
-module _ {A : Type 0} (other : Reply → A) (bad : Fault → A) where
-  abbrev or_fault : Reply → A
-  or_fault r = pick (leb 1 r.number && leb r.number 7) (bad (fault_from r)) (other r)
-
-  bad_back : (f : Fault) → or_fault (fault_says f) ≡ bad f
-  bad_back (Fx.Count p) = refl
-  bad_back (Fx.Control p) = refl
-  bad_back (Fx.Level p) = refl
-  bad_back (Fx.Nodes p) = refl
-  bad_back (Fx.Threshold p) = refl
-  bad_back (Fx.Member p) = refl
-  bad_back (Fx.Entries p) = refl
-
 pub fault_exact : (x y : Fault) → fault_says x ≡ fault_says y → x ≡ y
 fault_exact = told_back fault_says fault_from fault_back
 
--- ---- each answer, read back by its number and its fields
-abbrev sound_from : Reply → Checked
-sound_from r = Cx.Sound (value r Nodes) (value r Records)
+abbrev refusal_from : Reply → Refusal
+refusal_from r =
+    pick (eqb r.number 8) Xx.Outside (pick (eqb r.number 9) (Xx.Spent (value r Visits)) (pick (eqb r.number 10) (Xx.Short (value r Count))
+    (pick (eqb r.number 11) (Xx.Divided (value r First) (value r Second) (value r Visits)) (pick (eqb r.number 12) (Xx.Malformed (value r Place))
+    (pick (eqb r.number 13) Xx.Unsplit (Xx.Bad (fault_from r)))))))
 
-checked_back : (x : Checked) → or_fault sound_from Cx.Bad (checked_says x) ≡ x
-checked_back (Cx.Sound n r) = refl
-checked_back (Cx.Bad f) = bad_back sound_from Cx.Bad f
+refusal_back : (e : Refusal) → refusal_from (refusal_says e) ≡ e
+refusal_back (Xx.Bad (Fx.Count p)) = refl
+refusal_back (Xx.Bad (Fx.Control p)) = refl
+refusal_back (Xx.Bad (Fx.Level p)) = refl
+refusal_back (Xx.Bad (Fx.Nodes p)) = refl
+refusal_back (Xx.Bad (Fx.Threshold p)) = refl
+refusal_back (Xx.Bad (Fx.Member p)) = refl
+refusal_back (Xx.Bad (Fx.Entries p)) = refl
+refusal_back Xx.Outside = refl
+refusal_back (Xx.Spent k) = refl
+refusal_back (Xx.Short c) = refl
+refusal_back (Xx.Divided a b k) = refl
+refusal_back (Xx.Malformed l) = refl
+refusal_back Xx.Unsplit = refl
 
-pub checked_exact : (x y : Checked) → checked_says x ≡ checked_says y → x ≡ y
-checked_exact = told_back checked_says (or_fault sound_from Cx.Bad) checked_back
+pub refusal_exact : (x y : Refusal) → refusal_says x ≡ refusal_says y → x ≡ y
+refusal_exact = told_back refusal_says refusal_from refusal_back
 
-abbrev read_from : Reply → Read
-read_from r =
-    pick (eqb r.number 0) (Rx.Words (value r Count)) (pick (eqb r.number 10) (Rx.Short (value r Count)) (Rx.Malformed (value r Place)))
+-- ---- neither has the number 0
+abbrev pub not_answered : {E : Type 0} → (E → Reply) → Type 0
+not_answered {E} says = (e : E) → (says e).number ≡ 0 → ⊥
 
-read_back : (x : Read) → or_fault read_from Rx.Bad (read_says x) ≡ x
-read_back (Rx.Words c) = refl
-read_back (Rx.Short c) = refl
-read_back (Rx.Malformed l) = refl
-read_back (Rx.Bad f) = bad_back read_from Rx.Bad f
+pub fault_not : not_answered fault_says
+fault_not (Fx.Count p) e = cc
+fault_not (Fx.Control p) e = cc
+fault_not (Fx.Level p) e = cc
+fault_not (Fx.Nodes p) e = cc
+fault_not (Fx.Threshold p) e = cc
+fault_not (Fx.Member p) e = cc
+fault_not (Fx.Entries p) e = cc
 
-pub read_exact : (x y : Read) → read_says x ≡ read_says y → x ≡ y
-read_exact = told_back read_says (or_fault read_from Rx.Bad) read_back
+pub refusal_not : not_answered refusal_says
+refusal_not (Xx.Bad f) e = fault_not f e
+refusal_not Xx.Outside e = cc
+refusal_not (Xx.Spent k) e = cc
+refusal_not (Xx.Short c) e = cc
+refusal_not (Xx.Divided a b k) e = cc
+refusal_not (Xx.Malformed l) e = cc
+refusal_not Xx.Unsplit e = cc
 
-abbrev wrote_from : Reply → Wrote
-wrote_from r = pick (eqb r.number 0) (Wx.Bytes (value r Count)) (Wx.Short (value r Count))
+-- ---- an answer or a refusal
+-- the answers of one sort: each has the number 0, and can be read back
+record Answers {A : Type 0} (says : A → Reply) : Type 0 where
+  pub from : Reply → A
+  pub back : (x : A) → from (says x) ≡ x
+  pub nought : (x : A) → (says x).number ≡ 0
 
-wrote_back : (x : Wrote) → or_fault wrote_from Wx.Bad (wrote_says x) ≡ x
-wrote_back (Wx.Bytes c) = refl
-wrote_back (Wx.Short c) = refl
-wrote_back (Wx.Bad f) = bad_back wrote_from Wx.Bad f
+module _ {A E : Type 0} {answer : A → Reply} {refusal : E → Reply} (answers : Answers answer) (refused : not_answered refusal)
+    (exact : (x y : E) → refusal x ≡ refusal y → x ≡ y) where
+  apart : (x : A) (e : E) → answer x ≡ refusal e → ⊥
+  apart x e same = refused e (sym (ap (λ (r : Reply). r.number) same) ∙ answers.nought x)
 
-pub wrote_exact : (x y : Wrote) → wrote_says x ≡ wrote_says y → x ≡ y
-wrote_exact = told_back wrote_says (or_fault wrote_from Wx.Bad) wrote_back
+  either_exact : (x y : Result A E) → either answer refusal x ≡ either answer refusal y → x ≡ y
+  either_exact (Ok x) (Ok y) same = ap Ok (told_back answer answers.from answers.back x y same)
+  either_exact (Ok x) (Err e) same = absurd (apart x e same)
+  either_exact (Err e) (Ok x) same = absurd (apart x e (sym same))
+  either_exact (Err e) (Err f) same = ap Err (exact e f same)
 
-abbrev judged_from : Reply → Judged
-judged_from r = pick (eqb r.number 8) Jx.Outside (pick (eqb (value r Answer) 1) Jx.Yes Jx.No)
+module _ {A : Type 0} {answer : A → Reply} (answers : Answers answer) where
+  or_refused : (x y : Result A Refusal) → either answer refusal_says x ≡ either answer refusal_says y → x ≡ y
+  or_refused = either_exact answers refusal_not refusal_exact
 
-judged_back : (x : Judged) → or_fault judged_from Jx.Bad (judged_says x) ≡ x
-judged_back Jx.Yes = refl
-judged_back Jx.No = refl
-judged_back Jx.Outside = refl
-judged_back (Jx.Bad f) = bad_back judged_from Jx.Bad f
+sizes : Answers size_says
+sizes = record { from = λ r. record { nodes = value r Nodes; records = value r Records }; back = λ x. refl; nought = λ x. refl }
 
-pub judged_exact : (x y : Judged) → judged_says x ≡ judged_says y → x ≡ y
-judged_exact = told_back judged_says (or_fault judged_from Jx.Bad) judged_back
+counts : Answers count_says
+counts = record { from = λ r. value r Count; back = λ x. refl; nought = λ x. refl }
 
-abbrev greatest_from : Reply → Greatest
-greatest_from r = pick (eqb r.number 8) Gx.Outside (Gx.Is (value r Set) (value r Rounds))
+yes_back : (x : Bool) → eqb (value (yes_says x) Answer) 1 ≡ x
+yes_back true = refl
+yes_back false = refl
 
-greatest_back : (x : Greatest) → or_fault greatest_from Gx.Bad (greatest_says x) ≡ x
-greatest_back (Gx.Is s k) = refl
-greatest_back Gx.Outside = refl
-greatest_back (Gx.Bad f) = bad_back greatest_from Gx.Bad f
+yes_nought : (x : Bool) → (yes_says x).number ≡ 0
+yes_nought true = refl
+yes_nought false = refl
 
-pub greatest_exact : (x y : Greatest) → greatest_says x ≡ greatest_says y → x ≡ y
-greatest_exact = told_back greatest_says (or_fault greatest_from Gx.Bad) greatest_back
+judged : Answers yes_says
+judged = record { from = λ r. eqb (value r Answer) 1; back = yes_back; nought = yes_nought }
+
+greatest : Answers set_says
+greatest = record { from = λ r. record { set = value r Set; rounds = value r Rounds }; back = λ x. refl; nought = λ x. refl }
 
 abbrev verdict_from : Reply → Verdict
-verdict_from r =
-    pick (eqb r.number 0)
-    (pick (eqb (value r Answer) 1) (Vx.Yes (value r Visits)) (Vx.No (value r First) (value r Second) (value r Visits)))
-    (pick (eqb r.number 9) (Vx.Spent (value r Visits)) (pick (eqb r.number 13) Vx.Unsplit Vx.Outside))
+verdict_from r = pick (eqb (value r Answer) 1) (Vx.Yes (value r Visits)) (Vx.No (value r First) (value r Second) (value r Visits))
 
-verdict_back : (x : Verdict) → or_fault verdict_from Vx.Bad (verdict_says x) ≡ x
+verdict_back : (x : Verdict) → verdict_from (decision_says x) ≡ x
 verdict_back (Vx.Yes k) = refl
 verdict_back (Vx.No a b k) = refl
-verdict_back (Vx.Spent k) = refl
-verdict_back Vx.Unsplit = refl
-verdict_back Vx.Outside = refl
-verdict_back (Vx.Bad f) = bad_back verdict_from Vx.Bad f
 
-pub verdict_exact : (x y : Verdict) → verdict_says x ≡ verdict_says y → x ≡ y
-verdict_exact = told_back verdict_says (or_fault verdict_from Vx.Bad) verdict_back
+verdict_nought : (x : Verdict) → (decision_says x).number ≡ 0
+verdict_nought (Vx.Yes k) = refl
+verdict_nought (Vx.No a b k) = refl
 
-abbrev listed_from : Reply → Listed
-listed_from r =
-    pick (eqb r.number 0) (Lx.Sets (value r Count) (value r Visits))
-    (pick (eqb r.number 10) (Lx.Short (value r Count)) (pick (eqb r.number 9) (Lx.Spent (value r Visits)) Lx.Unsplit))
+verdicts : Answers decision_says
+verdicts = record { from = verdict_from; back = verdict_back; nought = verdict_nought }
 
-listed_back : (x : Listed) → or_fault listed_from Lx.Bad (listed_says x) ≡ x
-listed_back (Lx.Sets c k) = refl
-listed_back (Lx.Short c) = refl
-listed_back (Lx.Spent k) = refl
-listed_back Lx.Unsplit = refl
-listed_back (Lx.Bad f) = bad_back listed_from Lx.Bad f
+listed : Answers sets_say
+listed = record { from = λ r. record { count = value r Count; visits = value r Visits }; back = λ x. refl; nought = λ x. refl }
 
-pub listed_exact : (x y : Listed) → listed_says x ≡ listed_says y → x ≡ y
-listed_exact = told_back listed_says (or_fault listed_from Lx.Bad) listed_back
+intact : Answers well_says
+intact = record { from = λ r. record { set = value r Set; visits = value r Visits }; back = λ x. refl; nought = λ x. refl }
 
-abbrev intact_from : Reply → Intact
-intact_from r =
-    pick (eqb r.number 0) (Ix.Are (value r Set) (value r Visits))
-    (pick (eqb r.number 11) (Ix.Divided (value r First) (value r Second) (value r Visits))
-    (pick (eqb r.number 9) (Ix.Spent (value r Visits)) (pick (eqb r.number 13) Ix.Unsplit Ix.Outside)))
+pub checked_exact : (x y : Result Size Fault) → checked_says x ≡ checked_says y → x ≡ y
+checked_exact = either_exact sizes fault_not fault_exact
 
-intact_back : (x : Intact) → or_fault intact_from Ix.Bad (intact_says x) ≡ x
-intact_back (Ix.Are s k) = refl
-intact_back (Ix.Divided a b k) = refl
-intact_back (Ix.Spent k) = refl
-intact_back Ix.Unsplit = refl
-intact_back Ix.Outside = refl
-intact_back (Ix.Bad f) = bad_back intact_from Ix.Bad f
+pub read_exact : (x y : Result ℕ Refusal) → read_says x ≡ read_says y → x ≡ y
+read_exact = or_refused counts
 
-pub intact_exact : (x y : Intact) → intact_says x ≡ intact_says y → x ≡ y
-intact_exact = told_back intact_says (or_fault intact_from Ix.Bad) intact_back
+pub wrote_exact : (x y : Result ℕ Refusal) → wrote_says x ≡ wrote_says y → x ≡ y
+wrote_exact = or_refused counts
+
+pub judged_exact : (x y : Result Bool Refusal) → judged_says x ≡ judged_says y → x ≡ y
+judged_exact = or_refused judged
+
+pub greatest_exact : (x y : Result Greatest Refusal) → greatest_says x ≡ greatest_says y → x ≡ y
+greatest_exact = or_refused greatest
+
+pub verdict_exact : (x y : Result Verdict Refusal) → verdict_says x ≡ verdict_says y → x ≡ y
+verdict_exact = or_refused verdicts
+
+pub listed_exact : (x y : Result Listed Refusal) → listed_says x ≡ listed_says y → x ≡ y
+listed_exact = or_refused listed
+
+pub intact_exact : (x y : Result Intact Refusal) → intact_says x ≡ intact_says y → x ≡ y
+intact_exact = or_refused intact

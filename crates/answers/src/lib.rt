@@ -1,6 +1,9 @@
-// What the operations answer. An answer is an enum; specs/Said.antt sets out the number and values (SPECIFICATION 7) of each of its cases,
-// and proofs/Exact.antt shows that no two answers say the same.
+// What the operations answer: what is asked for, or the refusal, as a `Result`. specs/Said.antt sets out the number and values (SPECIFICATION 7) of
+// each case, and proofs/Exact.antt shows that no two answers say the same.
 #![tactic(auto)]
+
+ghost use Rattle.std.specs.Prelude.{◌≡◌};
+ghost use Rattle.answers.specs.Refused.{bad};
 
 // Numbers 1 to 7: why a table is turned away, with the place.
 #[derive(Clone, Copy)]
@@ -21,45 +24,55 @@ pub enum Fault {
     Entries(u64),
 }
 
-// A table is checked.
+// Numbers 1 to 13: why a question is not answered.
 #[derive(Clone, Copy)]
-pub enum Checked {
-    Sound { nodes: u64, records: u64 },
+pub enum Refusal {
+    // 1 to 7: the words are no table
     Bad(Fault),
-}
-
-// A text is read into a lent list of words.
-#[derive(Clone, Copy)]
-pub enum Read {
-    Words { count: u64 },
-    Short { count: u64 },
-    Malformed { line: u64 },
-    Bad(Fault),
-}
-
-// A table is written as a text into a lent buffer of bytes.
-#[derive(Clone, Copy)]
-pub enum Wrote {
-    Bytes { count: u64 },
-    Short { count: u64 },
-    Bad(Fault),
-}
-
-// A question answered by yes or no: is this a quorum; does this set block this node.
-#[derive(Clone, Copy)]
-pub enum Judged {
-    Yes,
-    No,
+    // 8: a set or node outside the nodes
     Outside,
-    Bad(Fault),
+    // 9: the allowance ended first
+    Spent {
+        visits: u64,
+    },
+    // 10: the lent buffer is too short for so many
+    Short {
+        count: u64,
+    },
+    // 11: two plain quorums have no node in common
+    Divided {
+        first: u64,
+        second: u64,
+        visits: u64,
+    },
+    // 12: a line is malformed
+    Malformed {
+        line: u64,
+    },
+    // 13: no node to split on
+    Unsplit,
+}
+
+impl From<Fault> for Refusal {
+    ghost from_gives = { λ fault refusal. refusal ≡ bad fault };
+
+    fn from(fault: Fault) -> Refusal {
+        Refusal::Bad(fault)
+    }
+}
+
+// A table that passes its check: how many nodes and records it has.
+#[derive(Clone, Copy)]
+pub struct Size {
+    pub nodes: u64,
+    pub records: u64,
 }
 
 // The greatest quorum within a set, and its rounds.
 #[derive(Clone, Copy)]
-pub enum Greatest {
-    Is { set: u64, rounds: u64 },
-    Outside,
-    Bad(Fault),
+pub struct Greatest {
+    pub set: u64,
+    pub rounds: u64,
 }
 
 // Do all quorums intersect?
@@ -73,40 +86,18 @@ pub enum Verdict {
         second: u64,
         visits: u64,
     },
-    Spent {
-        visits: u64,
-    },
-    Unsplit,
-    Outside,
-    Bad(Fault),
 }
 
-// A list of sets, written to a lent list of words.
+// How many sets a list has.
 #[derive(Clone, Copy)]
-pub enum Listed {
-    Sets { count: u64, visits: u64 },
-    Short { count: u64 },
-    Spent { visits: u64 },
-    Unsplit,
-    Bad(Fault),
+pub struct Listed {
+    pub count: u64,
+    pub visits: u64,
 }
 
 // The intact nodes for an ill set.
 #[derive(Clone, Copy)]
-pub enum Intact {
-    Are {
-        set: u64,
-        visits: u64,
-    },
-    Divided {
-        first: u64,
-        second: u64,
-        visits: u64,
-    },
-    Spent {
-        visits: u64,
-    },
-    Unsplit,
-    Outside,
-    Bad(Fault),
+pub struct Intact {
+    pub set: u64,
+    pub visits: u64,
 }

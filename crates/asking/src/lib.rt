@@ -15,64 +15,101 @@ const BLANK_WORD: u64 = 0xA5A5A5A5A5A5A5A5;
 
 const BLANK_BYTE: u8 = 0xA5;
 
-// A byte as a number.
-fn wide(x: u8) -> u64 {
-    x as u64
+// What may be asked, in the order of the bytes that stand for it.
+#[derive(Clone, Copy)]
+enum Op {
+    Check,
+    Read,
+    Write,
+    Quorum,
+    Greatest,
+    Blocks,
+    Verdict,
+    Minimal,
+    Blocking,
+    Intact,
+    Report,
 }
 
-// The byte at a place, 0 past the end.
-fn byte(s: &[u8], at: usize) -> u64 {
-    if at < s.len() { wide(s[at]) } else { 0 }
-}
+// A byte that stands for no operation.
+#[derive(Clone, Copy)]
+struct UnknownOp;
 
-// The number of two bytes.
-fn two(s: &[u8], at: usize) -> u64 {
-    byte(s, at) | byte(s, at.wrapping_add(1)) << 8
-}
+impl TryFrom<u8> for Op {
+    type Error = UnknownOp;
 
-// The number of four bytes.
-fn four(s: &[u8], at: usize) -> u64 {
-    two(s, at) | two(s, at.wrapping_add(2)) << 16
-}
-
-// The number of eight bytes.
-fn eight(s: &[u8], at: usize) -> u64 {
-    four(s, at) | four(s, at.wrapping_add(4)) << 32
-}
-
-// Reads words of eight bytes.
-fn load(s: &[u8], words: &mut [u64; 520]) {
-    let mut at: usize = 0;
-    for word in words.iter_mut() {
-        *word = eight(s, at);
-        at = at.wrapping_add(8);
+    fn try_from(code: u8) -> Result<Op, UnknownOp> {
+        match code {
+            0 => Ok(Op::Check),
+            1 => Ok(Op::Read),
+            2 => Ok(Op::Write),
+            3 => Ok(Op::Quorum),
+            4 => Ok(Op::Greatest),
+            5 => Ok(Op::Blocks),
+            6 => Ok(Op::Verdict),
+            7 => Ok(Op::Minimal),
+            8 => Ok(Op::Blocking),
+            9 => Ok(Op::Intact),
+            10 => Ok(Op::Report),
+            _ => Err(UnknownOp),
+        }
     }
 }
 
-// Writes a tab and a number.
-fn put<W: Write>(out: &mut W, x: u64) -> io::Result<()> {
-    write!(out, "\t{x}")
+// A case in its parts.
+#[derive(Clone, Copy)]
+struct Case<'a> {
+    op: Op,
+    a: u64,
+    b: u64,
+    room: usize,
+    payload: &'a [u8],
+}
+
+// A number of two bytes.
+fn two(bytes: &[u8; 2]) -> usize {
+    usize::from(u16::from_le_bytes(*bytes))
+}
+
+// The case at the start of the bytes and what follows it, if they are one.
+fn case_at(s: &[u8]) -> Option<(Case<'_>, &[u8])> {
+    let (code, s) = s.split_first()?;
+    let op = Op::try_from(*code).ok()?;
+    let (a, s) = s.split_first_chunk::<8>()?;
+    let (b, s) = s.split_first_chunk::<8>()?;
+    let (room, s) = s.split_first_chunk::<2>()?;
+    let (length, s) = s.split_first_chunk::<2>()?;
+    let (payload, rest) = s.split_at_checked(two(length))?;
+    let case = Case {
+        op,
+        a: u64::from_le_bytes(*a),
+        b: u64::from_le_bytes(*b),
+        room: two(room),
+        payload,
+    };
+    Some((case, rest))
 }
 
 // Writes the fields of a reply.
 fn put_reply<W: Write>(out: &mut W, r: &Reply) -> io::Result<()> {
-    let number = r.number;
-    write!(out, "{number}")?;
-    put(out, r.place)?;
-    put(out, r.nodes)?;
-    put(out, r.records)?;
-    put(out, r.answer)?;
-    put(out, r.set)?;
-    put(out, r.rounds)?;
-    put(out, r.first)?;
-    put(out, r.second)?;
-    put(out, r.count)?;
-    put(out, r.visits)
-}
-
-// Ends a line.
-fn end_line<W: Write>(out: &mut W) -> io::Result<()> {
-    out.write_all(b"\n")
+    let Reply {
+        number,
+        place,
+        nodes,
+        records,
+        answer,
+        set,
+        rounds,
+        first,
+        second,
+        count,
+        visits,
+    } = *r;
+    write!(
+        out,
+        "{number}\t{place}\t{nodes}\t{records}\t{answer}\t{set}\t{rounds}"
+    )?;
+    write!(out, "\t{first}\t{second}\t{count}\t{visits}")
 }
 
 // How much of a lent buffer a reply claims.
@@ -80,209 +117,126 @@ fn claimed(r: &Reply) -> u64 {
     if r.number == 0 { r.count } else { 0 }
 }
 
-// Writes the first words of a list, and any other that is not as it was lent.
-fn put_words<W: Write>(out: &mut W, list: &[u64; 520], count: u64) -> io::Result<()> {
+// The line of a list: the reply, the first words, and any other that is not as it was lent.
+fn put_list<W: Write>(out: &mut W, r: &Reply, list: &[u64; 520]) -> io::Result<()> {
+    put_reply(out, r)?;
     for (i, word) in list.iter().enumerate() {
-        if (i as u64) < count || *word != BLANK_WORD {
-            put(out, *word)?;
+        if (i as u64) < claimed(r) || *word != BLANK_WORD {
+            write!(out, "\t{word}")?;
         }
     }
-    Ok(())
+    out.write_all(b"\n")
 }
 
-// Writes the first bytes of a text, and any other that is not as it was lent.
-fn put_bytes<W: Write>(out: &mut W, text: &[u8; 4096], count: u64) -> io::Result<()> {
+// The line of a text, and behind it the first bytes, and any other that is not as it was lent.
+fn put_text<W: Write>(out: &mut W, r: &Reply, text: &[u8; 4096]) -> io::Result<()> {
+    put_reply(out, r)?;
+    out.write_all(b"\n")?;
     for (i, byte) in text.iter().enumerate() {
-        if (i as u64) < count || *byte != BLANK_BYTE {
+        if (i as u64) < claimed(r) || *byte != BLANK_BYTE {
             out.write_all(&[*byte])?;
         }
     }
     Ok(())
 }
 
-// The line of a list.
-fn put_list<W: Write>(out: &mut W, r: &Reply, list: &[u64; 520]) -> io::Result<()> {
-    put_reply(out, r)?;
-    put_words(out, list, claimed(r))?;
-    end_line(out)
+// A question that is lent so much of a list.
+fn lend_list<W: Write, F: FnOnce(&mut [u64]) -> Reply>(
+    out: &mut W,
+    room: usize,
+    ask: F,
+) -> io::Result<()>
+    requires { F.IsAlwaysCallable ask }
+{
+    let mut list = [BLANK_WORD; 520];
+    if room > list.len() {
+        return Ok(());
+    }
+    let r = ask(&mut list[..room]);
+    put_list(out, &r, &list)
 }
 
-// The line of a text, and the text.
-fn put_text<W: Write>(out: &mut W, r: &Reply, text: &[u8; 4096]) -> io::Result<()> {
-    put_reply(out, r)?;
-    end_line(out)?;
-    put_bytes(out, text, claimed(r))
+// A question that is lent so much of a buffer.
+fn lend_text<W: Write, F: FnOnce(&mut [u8]) -> Reply>(
+    out: &mut W,
+    room: usize,
+    ask: F,
+) -> io::Result<()>
+    requires { F.IsAlwaysCallable ask }
+{
+    let mut text = [BLANK_BYTE; 4096];
+    if room > text.len() {
+        return Ok(());
+    }
+    let r = ask(&mut text[..room]);
+    put_text(out, &r, &text)
 }
 
 // A question that writes nothing.
-fn plain<W: Write>(out: &mut W, op: u64, table: &[u64], a: u64, b: u64) -> io::Result<()> {
-    let r = match op {
-        0 => interface::breezedrum_check(table),
-        3 => interface::breezedrum_quorum(table, a, b),
-        4 => interface::breezedrum_greatest(table, a, b),
-        5 => interface::breezedrum_blocks(table, a, b),
-        6 => interface::breezedrum_verdict(table, a, b),
-        _ => interface::breezedrum_intact(table, a, b),
-    };
-    put_reply(out, &r)?;
-    end_line(out)
-}
-
-// The minimal quorums, with a list lent.
-fn minimal<W: Write>(out: &mut W, table: &[u64], allowance: u64, room: usize) -> io::Result<()> {
-    if room > 520 {
-        return Ok(());
-    }
-    let mut list = [BLANK_WORD; 520];
-    let r = interface::breezedrum_minimal(table, allowance, &mut list[..room]);
-    put_list(out, &r, &list)
-}
-
-// The minimal blocking sets, with a list lent.
-fn blocking<W: Write>(out: &mut W, table: &[u64], allowance: u64, room: usize) -> io::Result<()> {
-    if room > 520 {
-        return Ok(());
-    }
-    let mut list = [BLANK_WORD; 520];
-    let r = interface::breezedrum_blocking(table, allowance, &mut list[..room]);
-    put_list(out, &r, &list)
-}
-
-// A sheet, with a list lent.
-fn read<W: Write>(out: &mut W, sheet: &[u8], room: usize) -> io::Result<()> {
-    if room > 520 {
-        return Ok(());
-    }
-    let mut list = [BLANK_WORD; 520];
-    let r = interface::breezedrum_read_sheet(sheet, &mut list[..room]);
-    put_list(out, &r, &list)
-}
-
-// A table to be written as a sheet, with a buffer lent.
-fn write<W: Write>(out: &mut W, table: &[u64], room: usize) -> io::Result<()> {
-    if room > 4096 {
-        return Ok(());
-    }
-    let mut text = [BLANK_BYTE; 4096];
-    let r = interface::breezedrum_write_sheet(table, &mut text[..room]);
-    put_text(out, &r, &text)
-}
-
-// The report on a sheet, with a buffer lent.
-fn report<W: Write>(out: &mut W, sheet: &[u8], room: usize) -> io::Result<()> {
-    if room > 4096 {
-        return Ok(());
-    }
-    let mut text = [BLANK_BYTE; 4096];
-    let r = interface::breezedrum_report(sheet, &mut text[..room]);
-    put_text(out, &r, &text)
+fn plain<W: Write>(out: &mut W, r: &Reply) -> io::Result<()> {
+    put_reply(out, r)?;
+    out.write_all(b"\n")
 }
 
 // A question on a table.
-fn ask<W: Write>(
-    out: &mut W,
-    op: u64,
-    table: &[u64],
-    a: u64,
-    b: u64,
-    room: usize,
-) -> io::Result<()> {
-    match op {
-        2 => write(out, table, room),
-        7 => minimal(out, table, a, room),
-        8 => blocking(out, table, a, room),
-        _ => plain(out, op, table, a, b),
+fn ask<W: Write>(out: &mut W, case: &Case, table: &[u64]) -> io::Result<()> {
+    let (a, b, room) = (case.a, case.b, case.room);
+    match case.op {
+        Op::Write => lend_text(out, room, |text| {
+            interface::breezedrum_write_sheet(table, text)
+        }),
+        Op::Minimal => lend_list(out, room, |list| {
+            interface::breezedrum_minimal(table, a, list)
+        }),
+        Op::Blocking => lend_list(out, room, |list| {
+            interface::breezedrum_blocking(table, a, list)
+        }),
+        Op::Quorum => plain(out, &interface::breezedrum_quorum(table, a, b)),
+        Op::Greatest => plain(out, &interface::breezedrum_greatest(table, a, b)),
+        Op::Blocks => plain(out, &interface::breezedrum_blocks(table, a, b)),
+        Op::Verdict => plain(out, &interface::breezedrum_verdict(table, a, b)),
+        Op::Intact => plain(out, &interface::breezedrum_intact(table, a, b)),
+        _ => plain(out, &interface::breezedrum_check(table)),
     }
-}
-
-// A question on the first words of a list.
-fn ask_first<W: Write>(
-    out: &mut W,
-    op: u64,
-    words: &[u64; 520],
-    count: usize,
-    a: u64,
-    b: u64,
-    room: usize,
-) -> io::Result<()> {
-    if count > 520 {
-        return Ok(());
-    }
-    ask(out, op, &words[..count], a, b, room)
 }
 
 // A question on the words that the bytes spell.
-fn ask_words<W: Write>(
-    out: &mut W,
-    op: u64,
-    payload: &[u8],
-    a: u64,
-    b: u64,
-    room: usize,
-) -> io::Result<()> {
+fn ask_words<W: Write>(out: &mut W, case: &Case) -> io::Result<()> {
+    let (spelled, _) = case.payload.as_chunks::<8>();
     let mut words = [0u64; 520];
-    load(payload, &mut words);
-    ask_first(out, op, &words, payload.len() / 8, a, b, room)
+    for (word, bytes) in words.iter_mut().zip(spelled) {
+        *word = u64::from_le_bytes(*bytes);
+    }
+    let count = spelled.len();
+    if count > words.len() {
+        return Ok(());
+    }
+    ask(out, case, &words[..count])
 }
 
-// A case in its parts.
-fn run<W: Write>(
-    out: &mut W,
-    op: u64,
-    payload: &[u8],
-    a: u64,
-    b: u64,
-    room: usize,
-) -> io::Result<()> {
-    match op {
-        1 => read(out, payload, room),
-        10 => report(out, payload, room),
-        _ => ask_words(out, op, payload, a, b, room),
-    }
-}
-
-// The case at the start of the bytes: how many it takes, or all where they are no case.
-fn case<W: Write>(out: &mut W, s: &[u8]) -> io::Result<usize> {
-    let all = s.len();
-    if all < 21 {
-        return Ok(all);
-    }
-    let op = byte(s, 0);
-    if op > 10 {
-        return Ok(all);
-    }
-    let length = two(s, 19) as usize;
-    if length > all - 21 {
-        return Ok(all);
-    }
-    let end = 21 + length;
-    let payload = &s[21..end];
-    run(
-        out,
-        op,
-        payload,
-        eight(s, 1),
-        eight(s, 9),
-        two(s, 17) as usize,
-    )?;
-    Ok(end)
-}
-
-// The case at a place, and the place after it.
-fn step<W: Write>(out: &mut W, s: &[u8], at: usize) -> io::Result<usize> {
-    if at < s.len() {
-        let taken = case(out, &s[at..])?;
-        Ok(at.wrapping_add(taken))
-    } else {
-        Ok(at)
+// A case, asked.
+fn run<W: Write>(out: &mut W, case: &Case) -> io::Result<()> {
+    let sheet = case.payload;
+    match case.op {
+        Op::Read => lend_list(out, case.room, |list| {
+            interface::breezedrum_read_sheet(sheet, list)
+        }),
+        Op::Report => lend_text(out, case.room, |text| {
+            interface::breezedrum_report(sheet, text)
+        }),
+        _ => ask_words(out, case),
     }
 }
 
-// All cases: each takes 21 bytes or more of 65,536.
+// All cases, one behind the other: each takes 21 bytes or more of 65,536.
 fn all_cases<W: Write>(out: &mut W, s: &[u8]) -> io::Result<()> {
-    let mut at = 0;
+    let mut rest = s;
     for _ in 0..4096 {
-        at = step(out, s, at)?;
+        let Some((case, after)) = case_at(rest) else {
+            break;
+        };
+        run(out, &case)?;
+        rest = after;
     }
     Ok(())
 }

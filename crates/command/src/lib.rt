@@ -17,6 +17,7 @@ pub fn run<R: Read, W: Write>(rt: &(impl Env + Eprint), from: &mut R, out: &mut 
         let _ = eprintln!(rt; "usage: breezedrum < SHEET");
         return;
     }
+    // No heap: room for the words of 256 lines, and a count beside it.
     let mut words = [0u64; 512];
     let read = match intake::take(from, &mut words) {
         Ok(read) => read,

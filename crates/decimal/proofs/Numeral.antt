@@ -2,7 +2,7 @@
 -- itself changes nothing, since a tenth is smaller. How long a numeral is follows by the powers of ten.
 use Prim.Native.Nat.{ℕ, zero, suc, ◌+◌, ◌*◌, ◌/◌, ◌%◌, ◌^◌, ◌≤◌, ◌<◌}
 use native.Mathlib.Omega.{arith}
-use native.Mathlib.Nat.{pow-succ'}
+use native.Mathlib.Nat.{pow-succ', one-le-pow}
 use mathlib.Core.Path.{◌≡◌, refl}
 use mathlib.Core.List.{List, [], ◌∷◌, ◌++◌, append_assoc}
 use mathlib.Core.Logic.{⊎_elim}
@@ -64,11 +64,17 @@ length_below (suc k) n h =
     omega (arith, length_tens n p, length_below k (n / 10) i))
     (lt-or-le n 10)
 
+-- a number from 10^k on, but below 10^(k + 1), has k + 1 digits
+pub length_power : (k n : ℕ) → 10 ^ k ≤ n → n < 10 * 10 ^ k → length (numeral n) ≡ k + 1
+length_power zero n g h = omega (arith, length_digit n h)
+length_power (suc k) n g h =
+    let p : 10 * 10 ^ k ≤ n = rw (pow-succ' 10 k) at g in
+    let q : n < 10 * (10 * 10 ^ k) = rw (pow-succ' 10 k) at h in
+    let z : 1 ≤ 10 ^ k = one-le-pow k 10 (omega arith) in
+    omega (arith, length_tens n (omega arith), length_power k (n / 10) (omega arith) (omega arith))
+
 pub length_some : (n : ℕ) → 1 ≤ length (numeral n)
 length_some n = ⊎_elim (λ p. omega (arith, length_digit n p)) (λ p. omega (arith, length_tens n p)) (lt-or-le n 10)
-
-pub length_id : (n : ℕ) → n < 100 → length (numeral n) ≤ 2
-length_id n h = length_below 1 n h
 
 pub length_byte : (n : ℕ) → n ≤ 255 → length (numeral n) ≤ 3
 length_byte n h = length_below 2 n (omega arith)

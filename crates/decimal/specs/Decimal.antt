@@ -1,7 +1,5 @@
 -- Decimal numbers without leading zeros (SPECIFICATION 2).
-use Rattle.std.specs.Prelude.{ℕ, zero, suc, ◌+◌, ◌-◌, ◌*◌, ◌/◌, ◌%◌, true, false, cond, List, [], ◌∷◌, ◌++◌, ltb, leb, eqb, get_or}
-use Rattle.decimal.specs.declared.Number.{Number}
-use Rattle.decimal.specs.declared.Number.TheVariants.{Got, Bad}
+use Rattle.std.specs.Prelude.{ℕ, zero, suc, ◌+◌, ◌-◌, ◌*◌, ◌/◌, ◌%◌, true, false, cond, List, [], ◌∷◌, ◌++◌, ltb, leb, eqb, get_or, Option, None, Some}
 
 -- the digits of n, the last being n % 10; f tells how often the number may be cut by ten
 unfoldable pub digits : ℕ → ℕ → List ℕ
@@ -12,28 +10,33 @@ digits (suc f) n = elim (ltb n 10) [ true ↦ (48 + n) ∷ [] | false ↦ digits
 unfoldable pub numeral : ℕ → List ℕ
 numeral n = digits n n
 
--- the digit that a byte stands for, or 10 where it is none
-unfoldable pub digit_of : ℕ → ℕ
-digit_of b = cond (leb 48 b) (cond (leb b 57) (b - 48) 10) 10
+-- the digit that a byte stands for, if any
+unfoldable pub digit_of : ℕ → Option ℕ
+digit_of b = cond (leb 48 b) (cond (leb b 57) (Some (b - 48)) None) None
 
--- the digit at i, or 10; past the end stands 0, which is no digit
-unfoldable pub digit_at : List ℕ → ℕ → ℕ
+-- the digit at i; past the end stands 0, which is no digit
+unfoldable pub digit_at : List ℕ → ℕ → Option ℕ
 digit_at s i = digit_of (get_or s i 0)
 
--- the number of the digits a, b and c, as far as they are digits, up to 255; a leading 0 is a number by itself
-unfoldable pub number_of : ℕ → ℕ → ℕ → Number
+-- by cases on what may be there
+abbrev pub on_some : {A B : Type 0} → Option A → B → (A → B) → B
+on_some None b f = b
+on_some (Some x) b f = f x
+
+-- the number of the digits a, b and c, as far as they are digits, up to 255, and how many they are; a leading 0 is a number by itself
+unfoldable pub number_of : Option ℕ → Option ℕ → Option ℕ → Option (ℕ × ℕ)
 number_of a b c =
-    cond (ltb 9 a) Bad
-    (cond (eqb a 0) (Got 0 1)
-    (cond (ltb 9 b) (Got a 1)
-    (cond (ltb 9 c) (Got (a * 10 + b) 2)
-    (cond (ltb 255 (a * 100 + b * 10 + c)) Bad (Got (a * 100 + b * 10 + c) 3)))))
+    on_some a None
+    (λ x. cond (eqb x 0) (Some (0, 1))
+    (on_some b (Some (x, 1))
+    (λ y. on_some c (Some (x * 10 + y, 2))
+    (λ z. cond (ltb 255 (x * 100 + y * 10 + z)) None (Some (x * 100 + y * 10 + z, 3))))))
 
 -- the number at the start of s, and how many bytes it takes
-unfoldable pub read_number : List ℕ → Number
+unfoldable pub read_number : List ℕ → Option (ℕ × ℕ)
 read_number s = number_of (digit_at s 0) (digit_at s 1) (digit_at s 2)
 
--- by cases on a number that was read
-abbrev pub on_number : {A : Type 0} → Number → A → (ℕ → ℕ → A) → A
-on_number Bad b f = b
-on_number (Got v k) b f = f v k
+-- by cases on a number that was read, and how many bytes it took
+abbrev pub on_read : {A B : Type 0} → Option (A × ℕ) → B → (A → ℕ → B) → B
+on_read None b f = b
+on_read (Some x) b f = f x.0 x.1

@@ -1,89 +1,73 @@
 // Decimal numbers without leading zeros: read up to 255, written up to 2^64 - 1 (SPECIFICATION 2).
 #![tactic(auto)]
 
-ghost use Rattle.std.specs.Prelude.{◌≡◌, ◌≤◌, length, get_or};
+ghost use Rattle.std.specs.Prelude.{◌≡◌, ◌<◌, ◌≤◌, IfSome, length, get_or};
 ghost use Rattle.decimal.specs.Bytes.{Written};
 ghost use Rattle.decimal.specs.Decimal.{numeral, digit_at, read_number};
 
-// A number and how many bytes it took.
-#[derive(Clone, Copy)]
-pub enum Number {
-    Got(u64, usize),
-    Bad,
-}
-
 // The byte at i, or 0 past the end.
+// No field has the byte 0, so callers compare it with the byte they look for; `Some` of each such byte would be no plainer.
 pub fn byte_at(s: &[u8], i: usize) -> u8
     ensures { result ≡ get_or s.now i 0 }
 {
     if i < s.len() { s[i] } else { 0 }
 }
 
-// The digit at i, or 10 where there is none.
-fn digit_at(s: &[u8], i: usize) -> u64
-    ensures { result ≡ digit_at s.now i }
+// The digit at i, where there is one.
+#[tactic(auto, unfolding(crate::specs::Decimal::digit_of, crate::specs::Decimal::digit_at))]
+fn digit_at(s: &[u8], i: usize) -> Option<u64>
+    ensures digit { result ≡ digit_at s.now i }
+    ensures below_ten { IfSome result (λ d. d < 10) }
 {
     let b = byte_at(s, i);
-    if 48 <= b {
-        if b <= 57 {
-            return (b - 48) as u64;
-        }
+    if b'0' <= b && b <= b'9' {
+        return Some((b - b'0') as u64);
     }
-    10
+    None
 }
 
-// The number at the start of s. It ends before the first byte that is no digit, after a leading 0, and after three digits.
-pub fn read_number(s: &[u8]) -> Number
+// The number at the start of s, and how many bytes it took. It ends before the first byte that is no digit, after a leading 0, and after three
+// digits.
+#[tactic(auto, unfolding(crate::specs::Decimal::number_of, crate::specs::Decimal::read_number))]
+pub fn read_number(s: &[u8]) -> Option<(u64, usize)>
     ensures { result ≡ read_number s.now }
 {
-    let a = digit_at(s, 0);
-    if 9 < a {
-        return Number::Bad;
-    }
+    let a = digit_at(s, 0)?;
     if a == 0 {
-        return Number::Got(0, 1);
+        return Some((0, 1));
     }
-    let b = digit_at(s, 1);
-    if 9 < b {
-        return Number::Got(a, 1);
-    }
-    let c = digit_at(s, 2);
-    if 9 < c {
-        return Number::Got(a * 10 + b, 2);
-    }
+    let Some(b) = digit_at(s, 1) else {
+        return Some((a, 1));
+    };
+    let Some(c) = digit_at(s, 2) else {
+        return Some((a * 10 + b, 2));
+    };
     let v = a * 100 + b * 10 + c;
     if 255 < v {
-        return Number::Bad;
+        return None;
     }
-    Number::Got(v, 3)
+    Some((v, 3))
 }
 
-// How many digits n has. Each turn cuts one off, so the loop ends.
+// How many digits n has: one, and one more for each power of ten up to it.
+#[tactic(auto, using(crate::proofs::Numeral::length_digit, crate::proofs::Numeral::length_power))]
 pub fn number_len(n: u64) -> usize
     ensures { result ≡ length (numeral n) }
 {
-    let mut m = n;
-    let mut k: usize = 1;
-    while 9 < m {
-        m = m / 10;
-        k = k + 1;
-    }
-    k
+    n.checked_ilog10().unwrap_or(0) as usize + 1
 }
 
-// Writes n at the front of out, from its last digit to its first, and answers how many bytes that took.
+// Writes n at the front of out, its last digit behind the others, and answers how many bytes that took.
+#[tactic(auto, using(crate::proofs::Numeral::length_digit, crate::proofs::Numeral::length_tens))]
 pub fn put_number(out: &mut [u8], n: u64) -> usize
     requires { length (numeral n) ≤ length out.old }
     ensures { Written (numeral n) out.old out.new result }
 {
-    let len = number_len(n);
-    let mut m = n;
-    let mut at = len;
-    while 9 < m {
-        at = at - 1;
-        out[at] = 48 + (m % 10) as u8;
-        m = m / 10;
+    if n < 10 {
+        out[0] = b'0' + n as u8;
+        return 1;
     }
-    out[0] = 48 + m as u8;
-    len
+    let at = put_number(out, n / 10);
+    out[at] = b'0' + (n % 10) as u8;
+    at + 1
 }

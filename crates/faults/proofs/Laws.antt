@@ -19,18 +19,16 @@ use Rattle.sets.proofs.Members.{everyone-lt, everyone-all, within-lt, sub_within
 use Rattle.sets.proofs.Size.{ones_size, size-le}
 use Rattle.meanings.specs.Table.{records, control, threshold, level, members, nodes, inner_sets, entries, unknown}
 use Rattle.meanings.specs.Faults.{Check, sound, fault, or_else, fault_if, first_fault, bad_count, bad_control, bad_level, surplus, no_threshold, strangers, too_high, shape_fault, line_fault, entry_fault, check_by, check_lines}
-use Rattle.meanings.specs.Replies.{Reply, reply, ◌is◌, Place, Nodes, Records, value}
+use Rattle.meanings.specs.Replies.{Reply, reply, ◌is◌, Place}
 use Rattle.meanings.specs.Questions.{on_check}
 use Rattle.answers.specs.declared.Fault.{Fault}
 use Rattle.answers.specs.declared.Fault.TheVariants as Fx
-use Rattle.answers.specs.declared.Checked.{Checked}
-use Rattle.answers.specs.declared.Checked.TheVariants as Cx
-use Rattle.answers.specs.Said.{fault_says, checked_says}
+use Rattle.answers.specs.Said.{fault_says}
 use Rattle.tables.specs.Heads.{heads_before}
 use Rattle.tables.proofs.Runs.{inner_from, inner_count}
 use Rattle.tables.proofs.Unknown.{UnknownRecord, unknown_record, record_unknown}
 use Rattle.tables.proofs.Sound.{shapes_in_step}
-use Rattle.faults.specs.Walk.{counted, highest, lines_from, entries_from, Shapely, lines_reply}
+use Rattle.faults.specs.Walk.{highest, lines_from, entries_from, Shapely, Tells}
 
 -- ---- the first fault, from a record on
 module _ (f : ℕ → Check) (t : List ℕ) where
@@ -51,13 +49,7 @@ module _ (f : ℕ → Check) (t : List ℕ) where
   pub first_pass : (r : ℕ) → r < records t → f r ≡ sound → faults_from r ≡ faults_from (r + 1)
   first_pass r l e = first_at r l ∙ ap (λ (c : Check). or_else c (faults_from (r + 1))) e
 
--- ---- an answer that counts says that nothing is wrong, and any other hands its fault on
-pub counted_back : (c : Check) (n k m j : ℕ) → counted n k ≡ on_check c (counted m j) → (c ≡ sound) × (n ≡ m) × (k ≡ j)
-counted_back sound n k m j e = (refl, ap (λ (x : Reply). value x Nodes) e, ap (λ (x : Reply). value x Records) e)
-counted_back (fault x p) n k m j e =
-    let z : ◌≡◌ {A = ℕ} 2 1 = ap (λ (y : Reply). length y.names) e in
-    absurd (omega arith)
-
+-- ---- a fault tells what checking has come to, and so what any check comes to that begins so
 pub fault_number : (f : Fault) → 0 < (fault_says f).number
 fault_number (Fx.Count p) = omega arith
 fault_number (Fx.Control p) = omega arith
@@ -67,55 +59,39 @@ fault_number (Fx.Threshold p) = omega arith
 fault_number (Fx.Member p) = omega arith
 fault_number (Fx.Entries p) = omega arith
 
-no_count : {A : Type 0} (f : Fault) (n k : ℕ) → fault_says f ≡ counted n k → A
-no_count f n k e =
-    let z : (fault_says f).number ≡ 0 = ap (λ (y : Reply). y.number) e in
+pub tells_on : (f : Fault) (c d : Check) → Tells c f → Tells (or_else c d) f
+tells_on f sound d h x =
+    let z : (fault_says f).number ≡ 0 = ap (λ (y : Reply). y.number) (h (reply 0 [])) in
     let p = fault_number f in
     absurd (omega arith)
+tells_on f (fault y p) d h x = h x
 
-pub fault_stays : (f : Fault) (c : Check) (n k : ℕ) (x : Reply) → fault_says f ≡ on_check c (counted n k) → fault_says f ≡ on_check c x
-fault_stays f sound n k x e = no_count f n k e
-fault_stays f (fault y p) n k x e = e
+pub tells_for : (f : Fault) (c d : Check) → d ≡ c → Tells c f → Tells d f
+tells_for f c d e h x = h x ∙ ap (λ (y : Check). on_check y x) (sym e)
 
-pub handed_on_lem : (f : Fault) (c d : Check) (n k : ℕ) (x : Reply) → fault_says f ≡ on_check c (counted n k) → fault_says f ≡ on_check (or_else c d) x
-handed_on_lem f sound d n k x e = no_count f n k e
-handed_on_lem f (fault y p) d n k x e = e
+pub told : {c : Check} {k p : ℕ} → c ≡ fault k p → (x : Reply) → reply k (Place is p ∷ []) ≡ on_check c x
+told e x = ap (λ (y : Check). on_check y x) (sym e)
 
--- ---- a walk whose answer at each record is that record's fault, or what is counted up to its end; `all` is what it looks for
+-- ---- a walk from the first record on, as far as record r: where a fault is told there, where it goes on, and where it ends; `all` is what it looks for
 module _ (f : ℕ → Check) (t : List ℕ) (all : Check) (r : ℕ) (from_here : all ≡ faults_from f t r) where
-  pub walk_stops : r < records t → (o : Checked) (b : Fault) → o ≡ Cx.Bad b → (n k : ℕ) (x : Reply) → checked_says o ≡ on_check (f r) (counted n k)
-      → checked_says o ≡ on_check all x
-  walk_stops l o b e n k x a =
-      ap checked_says e
-      ∙ handed_on_lem b (f r) (faults_from f t (r + 1)) n k x (sym (ap checked_says e) ∙ a)
-      ∙ ap (λ (c : Check). on_check c x) (sym (from_here ∙ first_at f t r l))
+  pub walk_stops : r < records t → (b : Fault) → Tells (f r) b → Tells all b
+  walk_stops l b h = tells_for b (or_else (f r) (faults_from f t (r + 1))) all (from_here ∙ first_at f t r l) (tells_on b (f r) (faults_from f t (r + 1)) h)
 
-  pub walk_goes : r < records t → (o : Checked) (n k : ℕ) → o ≡ Cx.Sound n k → (m j : ℕ) → checked_says o ≡ on_check (f r) (counted m j)
-      → (n ≡ m) × (all ≡ faults_from f t (r + 1))
-  walk_goes l o n k e m j a =
-      let b = counted_back (f r) n k m j (sym (ap checked_says e) ∙ a) in
-      (b.1, from_here ∙ first_pass f t r l b.0)
+  pub walk_goes : r < records t → f r ≡ sound → all ≡ faults_from f t (r + 1)
+  walk_goes l e = from_here ∙ first_pass f t r l e
 
-  pub walk_ends : r ≤ records t → records t ≤ r → (n m : ℕ) → n ≡ m → counted n r ≡ on_check all (counted m (records t))
-  walk_ends h l n m e =
-      let d : r ≡ records t = omega arith in
-      ap₂ counted e d ∙ ap (λ (c : Check). on_check c (counted m (records t))) (sym (from_here ∙ first_end f t r l))
+  pub walk_ends : records t ≤ r → all ≡ sound
+  walk_ends l = from_here ∙ first_end f t r l
 
 -- ---- the whole check: 1, then the first pass, then the second
 module _ (nought : ℕ) (t : List ℕ) where
-  bad_count_lem : bad_count t ≡ true → check_lines nought t ≡ fault 1 0
+  pub count_first : bad_count t ≡ true → check_lines nought t ≡ fault 1 0
   unfolding check_lines check_by
-  bad_count_lem e = rw (check_by, e)
+  count_first e = rw (check_by, e)
 
-  good_count : bad_count t ≡ false → check_lines nought t ≡ or_else (lines_from nought t 0 (records t)) (entries_from t 0 (records t))
+  pub then_passes : bad_count t ≡ false → check_lines nought t ≡ or_else (lines_from nought t 0 (records t)) (entries_from t 0 (records t))
   unfolding check_lines check_by
-  good_count e = rw (check_by, e)
-
-  pub count_first : bad_count t ≡ true → lines_reply nought t ≡ reply 1 (Place is 0 ∷ [])
-  count_first e = ap (λ (c : Check). on_check c (counted (nodes t) (records t))) (bad_count_lem e)
-
-  pub then_passes : bad_count t ≡ false → lines_reply nought t ≡ on_check (or_else (lines_from nought t 0 (records t)) (entries_from t 0 (records t))) (counted (nodes t) (records t))
-  then_passes e = ap (λ (c : Check). on_check c (counted (nodes t) (records t))) (good_count e)
+  then_passes e = rw (check_by, e)
 
 -- ---- what one record meets, by the tests in order; places count from 1
 module _ (t : List ℕ) (r : ℕ) where
@@ -134,13 +110,10 @@ module _ (t : List ℕ) (r : ℕ) where
       meets_4 e = rw (shape_fault, e2, e3, e, add-one)
 
       module _ (e4 : surplus t r ≡ false) where
-        pub meets_5 : no_threshold t r ≡ true → shape_fault t r ≡ fault 5 (r + 1)
+        -- past 2 to 4, the test for 5 decides
+        pub then_5 : (b : Bool) → no_threshold t r ≡ b → shape_fault t r ≡ fault_if b 5 (r + 1)
         unfolding shape_fault
-        meets_5 e = rw (shape_fault, e2, e3, e4, e, add-one)
-
-        pub shapely : no_threshold t r ≡ false → shape_fault t r ≡ sound
-        unfolding shape_fault
-        shapely e = rw (shape_fault, e2, e3, e4, e)
+        then_5 b e = rw (shape_fault, e2, e3, e4, e, add-one)
 
   pub meets_6 : strangers t r ≡ true → entry_fault t r ≡ fault 6 (r + 1)
   unfolding entry_fault

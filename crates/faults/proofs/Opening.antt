@@ -1,64 +1,59 @@
 -- What comes before an answer: the faults of the table, then 8. Each is handed on unchanged whatever the answer would be; and where
 -- none of them is met, the answer is what is given back.
 use mathlib.Core.Path.{◌≡◌, refl, sym, ap, ap₂, ◌∙◌, subst}
-use mathlib.Core.Bool.{Bool, true, false, not, ◌&&◌}
+use mathlib.Core.Bool.{Bool, true, false, ◌&&◌}
 use mathlib.Core.Logic.{⊎_elim}
 use mathlib.Core.List.{List, []}
 use Prim.Native.Nat.{ℕ, ◌^◌, ◌<◌, ◌≤◌}
 use Rattle.sets.specs.Sets.{within, everyone, ◌∪◌}
-use Rattle.sets.proofs.Bools.{and_parts, and_both, not-holds, not_fails, bool_ext}
+use Rattle.sets.proofs.Bools.{and_parts, and_both, bool_ext}
 use Rattle.sets.proofs.Members.{∪-left, ∪_right, ∪_cases, ∪-lt, everyone-lt, within-sub, sub_within, within-lt}
 use Rattle.meanings.specs.Table.{nodes}
 use Rattle.meanings.specs.Faults.{Check, sound, check}
 use Rattle.meanings.specs.Replies.{Reply, reply}
-use Rattle.meanings.specs.Questions.{on_check, in_nodes, check_reply}
-use Rattle.answers.specs.declared.Checked.{Checked}
-use Rattle.answers.specs.declared.Checked.TheVariants as Cx
-use Rattle.answers.specs.Said.{checked_says}
-use Rattle.tables.proofs.Sound.{sound_table}
-use Rattle.faults.proofs.Known.{sound_known}
+use Rattle.meanings.specs.Questions.{on_check, in_nodes}
+use Rattle.tables.specs.Heads.{Reads}
 
 pub inside_lt : (m n : ℕ) → within m (everyone n) ≡ true → m < 2 ^ n
 inside_lt m n e = within-lt n m (everyone n) (everyone-lt n) e
 
--- ---- past the check: the table is sound, and n is how many nodes it has
+-- ---- past the check: the words are sound, and n is how many nodes their table has
 pub record Passed (t : List ℕ) (n : ℕ) : Type 0 where
   pub checked : check t ≡ sound
   pub nodes_are : n ≡ nodes t
   pub few : n ≤ 64
 
-pub past_check : (t : List ℕ) (o : Checked) → checked_says o ≡ check_reply t → (n k : ℕ) → o ≡ Cx.Sound n k → Passed t n
-past_check t o says n k e =
-    let w = sound_known t o says n k e in
-    record {
-      checked = w.0;
-      nodes_are = w.1;
-      few = subst (λ (m : ℕ). m ≤ 64) (sym w.1) (sound_table t w.0).nodes-le;
-    }
+pub past_check : {w t : List ℕ} {n : ℕ} → (t ≡ w) × (check w ≡ sound) → Reads t ((n ≡ nodes t) × (n ≤ 64)) → Passed w n
+past_check {n = n} opens told = record {
+  checked = opens.1;
+  nodes_are = subst (λ (k : List ℕ). n ≡ nodes k) opens.0 told.reads.0;
+  few = told.reads.1;
+}
 
--- ---- then a set of nodes; r says whether it lies within the n nodes
-module _ (t : List ℕ) (n : ℕ) (p : Passed t n) (m : ℕ) (r : Bool) (found : r ≡ within m (everyone n)) where
-  as_found : within m (everyone (nodes t)) ≡ r
-  as_found = ap (λ (k : ℕ). within m (everyone k)) (sym p.nodes_are) ∙ sym found
+-- ---- then a set of nodes, which lies within the n nodes or not
+module _ {t : List ℕ} {n : ℕ} (p : Passed t n) (m : ℕ) where
+  as_found : (r : Bool) → r ≡ within m (everyone n) → within m (everyone (nodes t)) ≡ r
+  as_found r found = ap (λ (k : ℕ). within m (everyone k)) (sym p.nodes_are) ∙ sym found
 
-  pub set_inside : not r ≡ false → within m (everyone (nodes t)) ≡ true
-  set_inside e = as_found ∙ not_fails r e
+  past : (r : Bool) → r ≡ within m (everyone n) → (x : Reply) → in_nodes r x ≡ on_check (check t) (in_nodes (within m (everyone (nodes t))) x)
+  past r found x = sym (ap₂ (λ (c : Check) (d : Bool). on_check c (in_nodes d x)) p.checked (as_found r found))
 
-  past : (b : Bool) → r ≡ b → (x : Reply) → in_nodes b x ≡ on_check (check t) (in_nodes (within m (everyone (nodes t))) x)
-  past b e x = sym (ap₂ (λ (c : Check) (d : Bool). on_check c (in_nodes d x)) p.checked (as_found ∙ e))
+  pub set_outside : false ≡ within m (everyone n) → (x : Reply) → reply 8 [] ≡ on_check (check t) (in_nodes (within m (everyone (nodes t))) x)
+  set_outside = past false
 
-  pub set_outside : not r ≡ true → (x : Reply) → reply 8 [] ≡ on_check (check t) (in_nodes (within m (everyone (nodes t))) x)
-  set_outside e = past false (not-holds r e)
+  module _ (found : true ≡ within m (everyone n)) where
+    pub set_inside : within m (everyone (nodes t)) ≡ true
+    set_inside = as_found true found
 
-  pub set_answered : not r ≡ false → (x : Reply) → x ≡ on_check (check t) (in_nodes (within m (everyone (nodes t))) x)
-  set_answered e = past true (not_fails r e)
+    pub set_answered : (x : Reply) → x ≡ on_check (check t) (in_nodes (within m (everyone (nodes t))) x)
+    set_answered = past true found
 
-  -- and a further argument after it
-  pub then_outside : not r ≡ false → (b : Bool) → b ≡ false → (x : Reply) → reply 8 [] ≡ on_check (check t) (in_nodes (within m (everyone (nodes t))) (in_nodes b x))
-  then_outside e b f x = ap (λ (d : Bool). in_nodes d x) (sym f) ∙ set_answered e (in_nodes b x)
+    -- and a further argument after it
+    pub then_outside : (b : Bool) → b ≡ false → (x : Reply) → reply 8 [] ≡ on_check (check t) (in_nodes (within m (everyone (nodes t))) (in_nodes b x))
+    then_outside b f x = ap (λ (d : Bool). in_nodes d x) (sym f) ∙ set_answered (in_nodes b x)
 
-  pub then_answered : not r ≡ false → (b : Bool) → b ≡ true → (x : Reply) → x ≡ on_check (check t) (in_nodes (within m (everyone (nodes t))) (in_nodes b x))
-  then_answered e b f x = ap (λ (d : Bool). in_nodes d x) (sym f) ∙ set_answered e (in_nodes b x)
+    pub then_answered : (b : Bool) → b ≡ true → (x : Reply) → x ≡ on_check (check t) (in_nodes (within m (everyone (nodes t))) (in_nodes b x))
+    then_answered b f x = ap (λ (d : Bool). in_nodes d x) (sym f) ∙ set_answered (in_nodes b x)
 
 -- ---- or two sets, tried at once: each lies within the nodes exactly when both together do
 within_both : (a b e : ℕ) → a < 2 ^ 64 → b < 2 ^ 64 → within (a ∪ b) e ≡ (within a e && within b e)
@@ -78,7 +73,7 @@ in_turn_lem : (a b : Bool) (x : Reply) → in_nodes (a && b) x ≡ in_nodes a (i
 in_turn_lem true b x = refl
 in_turn_lem false b x = refl
 
-module _ (t : List ℕ) (n : ℕ) (p : Passed t n) (a b : ℕ) (h : a < 2 ^ 64) (k : b < 2 ^ 64) (r : Bool) (found : r ≡ within (a ∪ b) (everyone n)) where
+module _ {t : List ℕ} {n : ℕ} (p : Passed t n) (a b : ℕ) (h : a < 2 ^ 64) (k : b < 2 ^ 64) where
   abbrev in_turn : Reply → Reply
   in_turn x = on_check (check t) (in_nodes (within a (everyone (nodes t))) (in_nodes (within b (everyone (nodes t))) x))
 
@@ -88,13 +83,13 @@ module _ (t : List ℕ) (n : ℕ) (p : Passed t n) (a b : ℕ) (h : a < 2 ^ 64) 
       (ap (λ (d : Bool). in_nodes d x) (within_both a b (everyone (nodes t)) h k)
       ∙ in_turn_lem (within a (everyone (nodes t))) (within b (everyone (nodes t))) x)
 
-  pub sets_outside : not r ≡ true → (x : Reply) → reply 8 [] ≡ in_turn x
-  sets_outside e x = set_outside t n p (a ∪ b) r found e x ∙ both_sets x
+  pub sets_outside : false ≡ within (a ∪ b) (everyone n) → (x : Reply) → reply 8 [] ≡ in_turn x
+  sets_outside found x = set_outside p (a ∪ b) found x ∙ both_sets x
 
-  pub sets-answered : not r ≡ false → (x : Reply) → x ≡ in_turn x
-  sets-answered e x = set_answered t n p (a ∪ b) r found e x ∙ both_sets x
+  module _ (found : true ≡ within (a ∪ b) (everyone n)) where
+    pub sets-answered : (x : Reply) → x ≡ in_turn x
+    sets-answered x = set_answered p (a ∪ b) found x ∙ both_sets x
 
-  pub second_inside : not r ≡ false → within b (everyone (nodes t)) ≡ true
-  second_inside e =
-      (and_parts (within a (everyone (nodes t))) (within b (everyone (nodes t)))
-      (sym (within_both a b (everyone (nodes t)) h k) ∙ set_inside t n p (a ∪ b) r found e)).1
+    pub second_inside : within b (everyone (nodes t)) ≡ true
+    second_inside =
+        (and_parts (within a (everyone (nodes t))) (within b (everyone (nodes t))) (sym (within_both a b (everyone (nodes t)) h k) ∙ set_inside p (a ∪ b) found)).1

@@ -4,17 +4,17 @@ use Prim.Native.Nat.{ℕ, suc, ◌+◌, ◌*◌, ◌^◌, ◌≤◌, ◌<◌}
 use native.Mathlib.Omega.{arith}
 use mathlib.Core.Path.{◌≡◌, refl, sym, ap, ◌∙◌}
 use mathlib.Core.List.{List, [], ◌∷◌, ◌++◌, append_assoc, append-nil}
-use mathlib.Core.Bool.{Bool, true, false, cond}
-use lib.Dec.{eqb}
 use Rattle.decimal.specs.Bytes.{Written}
-use Rattle.decimal.specs.Decimal.{numeral}
 use Rattle.decimal.proofs.Numeral.{length_word}
-use Rattle.members.specs.Members.{member_text}
 use Rattle.members.proofs.Written.{length-members}
-use lib.ListN.{length, drop, get_or, length-append, length-drop}
+use lib.ListN.{length, drop, get_or, length-append, length-drop, drop_of_length-le}
 use lib.Seq.{drop-cons}
 use borrow.Author.Tests.{lt-ltb, le-ltb}
 use Rattle.words.specs.Words.{word_text}
+use Rattle.words.specs.declared.Word.{Word}
+use Rattle.words.specs.declared.Word.TheVariants as Wx
+use Rattle.fields.specs.declared.Field.{Field}
+use Rattle.fields.specs.declared.Field.TheVariants as Fx
 use Rattle.fields.specs.Fields.{row, field_text, texts, line_of, end_at, ended}
 
 -- one field more, whatever follows
@@ -26,90 +26,76 @@ row_last : (w : List ℕ) → row (w ∷ []) ≡ ended w 10 ++ row []
 unfolding row ended
 row_last w = simp append-nil
 
--- two words and what follows
-step_more : (k x a b : ℕ) (l : List ℕ) → line_of (k ∷ x ∷ a ∷ b ∷ l) ≡ ended (field_text k x) 9 ++ line_of (a ∷ b ∷ l)
-unfolding line_of texts
-step_more k x a b l = row_more (field_text k x) (field_text a b) (texts l)
-
-step_last : (k x : ℕ) (l : List ℕ) → length l < 2 → line_of (k ∷ x ∷ l) ≡ ended (field_text k x) 10 ++ line_of l
-unfolding line_of texts
-step_last k x [] h = row_last (field_text k x)
-step_last k x (a ∷ []) h = row_last (field_text k x)
-step_last k x (a ∷ b ∷ l) h = absurd (omega arith)
-
-step : (k x : ℕ) (l : List ℕ) (i n : ℕ) → n ≡ i + suc (suc (length l)) → line_of (k ∷ x ∷ l) ≡ ended (field_text k x) (end_at n i) ++ line_of l
-unfolding end_at
-step k x [] i n e = let h : n ≤ i + 3 = omega arith in rw (le-ltb (i + 3) n h) (step_last k x [] (omega arith))
-step k x (a ∷ []) i n e = let h : n ≤ i + 3 = omega arith in rw (le-ltb (i + 3) n h) (step_last k x (a ∷ []) (omega arith))
-step k x (a ∷ b ∷ l) i n e = let h : i + 3 < n = omega arith in rw (lt-ltb (i + 3) n h) (step_more k x a b l)
+step : (x : Field) (l : List Field) (i n : ℕ) → n ≡ i + suc (length l) → line_of (x ∷ l) ≡ ended (field_text x) (end_at n i) ++ line_of l
+unfolding line_of texts end_at
+step x [] i n e = let h : n ≤ i + 1 = omega arith in rw (le-ltb (i + 1) n h) (row_last (field_text x))
+step x (y ∷ l) i n e = let h : i + 1 < n = omega arith in rw (lt-ltb (i + 1) n h) (row_more (field_text x) (field_text y) (texts l))
 
 -- the line from a field on
-pub next_field : (l : List ℕ) (i : ℕ) → i + 1 < length l
-    → line_of (drop i l) ≡ ended (field_text (get_or l i 0) (get_or l (i + 1) 0)) (end_at (length l) i) ++ line_of (drop (i + 2) l)
-next_field l i h =
-    let a : i < length l = omega arith in
-    let b : suc i < length l = omega arith in
-    let n : i + 2 ≡ suc (suc i) = omega arith in
+pub next_field : (l : List Field) (i : ℕ) (d : Field) → i < length l
+    → line_of (drop i l) ≡ ended (field_text (get_or l i d)) (end_at (length l) i) ++ line_of (drop (i + 1) l)
+next_field l i d h =
     let m : i + 1 ≡ suc i = omega arith in
-    let z : length l ≡ i + suc (suc (length (drop (suc (suc i)) l))) = omega (arith, length-drop (suc (suc i)) l) in
-    rw (n, m, drop-cons l i 0 a, drop-cons l (suc i) 0 b) (step (get_or l i 0) (get_or l (suc i) 0) (drop (suc (suc i)) l) i (length l) z)
+    let z : length l ≡ i + suc (length (drop (suc i) l)) = omega (arith, length-drop (suc i) l) in
+    rw (m, drop-cons l i d h) (step (get_or l i d) (drop (suc i) l) i (length l) z)
 
 -- nothing is left
-short : (l : List ℕ) → length l ≤ 1 → line_of l ≡ []
+pub no_field : (l : List Field) (i : ℕ) → length l ≤ i → line_of (drop i l) ≡ []
 unfolding line_of texts row
-short [] h = refl
-short (a ∷ []) h = refl
-short (a ∷ b ∷ l) h = absurd (omega arith)
-
-pub no_field : (l : List ℕ) (i : ℕ) → length l ≤ i + 1 → line_of (drop i l) ≡ []
-no_field l i h = short (drop i l) (omega (arith, length-drop i l))
+no_field l i h = rw (drop_of_length-le l h)
 
 length-ended : (w : List ℕ) (e : ℕ) → length (ended w e) ≡ length w + 1
 unfolding ended
 length-ended w e = length-append w (e ∷ [])
 
 -- ---- how long a line can be: a number of 64 bits has at most twenty digits, a member list at most 181 bytes, a word eight
-either : (b : Bool) (u v : List ℕ) (n : ℕ) → length u ≤ n → length v ≤ n → length (cond b u v) ≤ n
-either true u v n h i = h
-either false u v n h i = i
+word_most : (w : Word) → length (word_text w) ≤ 181
+word_most Wx.Refused = omega arith
+word_most Wx.Nodes = omega arith
+word_most Wx.Sets = omega arith
+word_most Wx.Verdict = omega arith
+word_most Wx.Yes = omega arith
+word_most Wx.No = omega arith
+word_most Wx.Hyphen = omega arith
+word_most Wx.Minimal = omega arith
+word_most Wx.Q = omega arith
+word_most Wx.Blocking = omega arith
+word_most Wx.B = omega arith
 
-word_most : (x : ℕ) → length (word_text x) ≤ 181
-unfolding word_text
-word_most x =
-    either (eqb x 0) _ _ 181 (omega arith)
-    (either (eqb x 1) _ _ 181 (omega arith)
-    (either (eqb x 2) _ _ 181 (omega arith)
-    (either (eqb x 3) _ _ 181 (omega arith)
-    (either (eqb x 4) _ _ 181 (omega arith)
-    (either (eqb x 5) _ _ 181 (omega arith)
-    (either (eqb x 6) _ _ 181 (omega arith)
-    (either (eqb x 7) _ _ 181 (omega arith)
-    (either (eqb x 8) _ _ 181 (omega arith)
-    (either (eqb x 9) _ _ 181 (omega arith)
-    (either (eqb x 10) _ [] 181 (omega arith) (omega arith)))))))))))
+-- a number that a field holds has 64 bits
+abbrev pub in_word : Field → Type 0
+in_word (Fx.Fixed w) = Unit
+in_word (Fx.Number n) = n < 2 ^ 64
+in_word (Fx.Set s) = Unit
 
-field_most : (kind x : ℕ) → x < 2 ^ 64 → length (field_text kind x) ≤ 181
-unfolding field_text
-field_most kind x h =
-    let n : length (numeral x) ≤ 181 = omega (arith, length_word x h) in
-    either (eqb kind 0) (word_text x) _ 181 (word_most x)
-    (either (eqb kind 1) (numeral x) _ 181 n
-    (either (eqb kind 2) (member_text x) [] 181 (length-members x) (omega arith)))
+pub field_most : (x : Field) → in_word x → length (field_text x) ≤ 181
+field_most (Fx.Fixed w) h = word_most w
+field_most (Fx.Number n) h = omega (arith, length_word n h)
+field_most (Fx.Set s) h = length-members s
 
-pub line_most : (l : List ℕ) → ((i : ℕ) → get_or l i 0 < 2 ^ 64) → length (line_of l) ≤ 91 * length l
-line_most [] h = omega (arith, ap (length {A = ℕ}) (short [] (omega arith)))
-line_most (a ∷ []) h = omega (arith, ap (length {A = ℕ}) (short (a ∷ []) (omega arith)))
-line_most (k ∷ x ∷ l) h =
-    let e = ap (length {A = ℕ}) (step k x l 0 (0 + suc (suc (length l))) refl) in
-    let f = end_at (0 + suc (suc (length l))) 0 in
+pub line_most : (l : List Field) → ((i : ℕ) → in_word (get_or l i (Fx.Fixed Wx.Refused))) → length (line_of l) ≤ 182 * length l
+line_most [] h = omega (arith, ap (length {A = ℕ}) (no_field [] 0 (omega arith)))
+line_most (x ∷ l) h =
+    let f = end_at (0 + suc (length l)) 0 in
     omega (
       arith,
-      e,
-      length-append (ended (field_text k x) f) (line_of l),
-      length-ended (field_text k x) f,
-      field_most k x (h 1),
-      line_most l (λ i. h (suc (suc i))),
+      ap (length {A = ℕ}) (step x l 0 (0 + suc (length l)) refl),
+      length-append (ended (field_text x) f) (line_of l),
+      length-ended (field_text x) f,
+      field_most x (h 0),
+      line_most l (λ i. h (suc i)),
     )
+
+-- what is counted of a line: a field more, with the byte behind it
+pub length_field : (l : List Field) (i : ℕ) (d : Field) → i < length l
+    → length (line_of (drop i l)) ≡ length (field_text (get_or l i d)) + 1 + length (line_of (drop (i + 1) l))
+length_field l i d h =
+    let x = field_text (get_or l i d) in
+    let e = end_at (length l) i in
+    omega (arith, ap (length {A = ℕ}) (next_field l i d h), length-append (ended x e) (line_of (drop (i + 1) l)), length-ended x e)
+
+pub length_rest : (l : List Field) (i : ℕ) → length l ≤ i → length (line_of (drop i l)) ≡ 0
+length_rest l i h = ap (length {A = ℕ}) (no_field l i h)
 
 -- ---- what a writer of a text promises fits one result only
 pub written_exact : (w d a b : List ℕ) (n m : ℕ) → Written w d a n → Written w d b m → (a ≡ b) × (n ≡ m)

@@ -10,36 +10,32 @@ ghost use Rattle.input.specs.Reading.{Goes, Means, Within};
 use std::io;
 use std::io::{ErrorKind, Read};
 
-// What one read came to. `Failed` has the error of the failed read.
-#[derive(Drop)]
+// What a read that did not fail came to, or one that a signal interrupted.
+#[derive(Clone, Copy)]
 enum Step {
     More { count: usize },
     End,
     Interrupted,
-    Failed { error: io::Error },
 }
 
 // What the answer of a read means: a failure is never the end. One that a signal interrupted may be tried again, while tries are left.
-fn step_of(answer: io::Result<usize>, tries: usize) -> Step
+fn step_of(answer: io::Result<usize>, tries: usize) -> io::Result<Step>
     ensures { Means result answer tries }
 {
     match answer {
-        Ok(0) => Step::End,
-        Ok(count) => Step::More { count },
+        Ok(0) => Ok(Step::End),
+        Ok(count) => Ok(Step::More { count }),
         Err(error) => {
-            if tries == 0 {
-                return Step::Failed { error };
+            if tries > 0 && error.kind() == ErrorKind::Interrupted {
+                return Ok(Step::Interrupted);
             }
-            if error.kind() == ErrorKind::Interrupted {
-                return Step::Interrupted;
-            }
-            Step::Failed { error }
+            Err(error)
         }
     }
 }
 
 // One read into the rest of the buffer.
-fn read_some<R: Read>(from: &mut R, rest: &mut [u8], tries: usize) -> Step
+fn read_some<R: Read>(from: &mut R, rest: &mut [u8], tries: usize) -> io::Result<Step>
     ensures { Goes result (length rest.old) tries }
 {
     step_of(from.read(rest), tries)
@@ -52,12 +48,12 @@ pub fn read_all<R: Read>(from: &mut R, buf: &mut [u8]) -> io::Result<usize>
 {
     let mut at = 0;
     let mut tries = 1000;
+    // `at` goes on by what a read gave, and a try is lost only where one was interrupted, so no `for` counts either.
     while at < buf.len() {
-        match read_some(from, &mut buf[at..], tries) {
+        match read_some(from, &mut buf[at..], tries)? {
             Step::More { count } => at += count,
             Step::End => return Ok(at),
             Step::Interrupted => tries -= 1,
-            Step::Failed { error } => return Err(error),
         }
     }
     Ok(at)

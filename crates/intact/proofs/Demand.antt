@@ -9,6 +9,7 @@ use mathlib.Core.Logic.{◌⊎◌, inl, inr}
 use Prim.Native.Nat.{ℕ, suc, ◌+◌, ◌*◌, ◌^◌, ◌≤◌, ◌<◌}
 use native.Mathlib.Nat.{pow-suc}
 use native.Mathlib.Omega.{arith}
+use Rattle.std.specs.Prelude.{Result, Ok, Err}
 use lib.Pow.{pow_mono}
 use Rattle.sets.specs.Sets.{nobody, everyone, size, within as lies_within}
 use Rattle.sets.proofs.Bools.{clash}
@@ -25,8 +26,9 @@ use Rattle.theory.proofs.Intact.{search_step}
 use Rattle.faults.proofs.Numbers.{OnlyNine, larger_says, after_check, after_nodes}
 use Rattle.satisfaction.proofs.Monotone.{satisfied_monotone}
 use Rattle.answers.specs.Said.{intact_says}
+use Rattle.answers.specs.declared.Refusal.{Refusal}
+use Rattle.answers.specs.declared.Refusal.TheVariants.{Divided, Spent, Unsplit}
 use Rattle.answers.specs.declared.Intact.{Intact}
-use Rattle.answers.specs.declared.Intact.TheVariants.{Are, Divided, Spent, Unsplit}
 use Rattle.answers.proofs.Exact.{intact_exact}
 use Rattle.intact.specs.Promise.{IntactPromise}
 use Rattle.intact.proofs.Allowance.{visits_of}
@@ -134,36 +136,36 @@ module _ (t : List ℕ) (ill : ℕ) where
       later = rw (says_plain a (ending_of t ill), says_plain b (ending_of t ill)) (larger_says a b (all_visits t ill) (intact_says (plain (ending_of t ill))) l)
 
 -- ---- of any answer that fits the promise
-module _ (t : List ℕ) (ill allowance : ℕ) (r : Intact) (p : IntactPromise t ill allowance r) where
+module _ (t : List ℕ) (ill allowance : ℕ) (r : Result Intact Refusal) (p : IntactPromise t ill allowance r) where
   -- with allowance enough: exactly the intact nodes where all plain quorums intersect, and two plain quorums apart elsewhere
   pub intact_fits : Asked t ill → all_visits t ill ≤ allowance → intersecting (nodes t) (satisfied t) nobody ≡ true
-      → r ≡ Are (intact_nodes (nodes t) (satisfied t) ill) (all_visits t ill)
+      → r ≡ Ok (record { set = intact_nodes (nodes t) (satisfied t) ill; visits = all_visits t ill })
   intact_fits a l i =
       let w = number_0 t ill allowance ((answers_whenever t ill allowance a l).0 i) in
-      intact_exact r (Are (intact_nodes (nodes t) (satisfied t) ill) (all_visits t ill)) (p.told ∙ w.2)
+      intact_exact r (Ok (record { set = intact_nodes (nodes t) (satisfied t) ill; visits = all_visits t ill })) (p.told ∙ w.2)
 
   pub divided_fits : Asked t ill → all_visits t ill ≤ allowance → intersecting (nodes t) (satisfied t) nobody ≡ false
-      → (a b : ℕ) × (r ≡ Divided a b (all_visits t ill)) × (disjoint_quorums (nodes t) (satisfied t) nobody a b ≡ true)
+      → (a b : ℕ) × (r ≡ Err (Divided a b (all_visits t ill))) × (disjoint_quorums (nodes t) (satisfied t) nobody a b ≡ true)
   divided_fits a l i =
       let w = number_11 t ill allowance ((answers_whenever t ill allowance a l).1 i) in
-      (w.0, w.1, intact_exact r (Divided w.0 w.1 (all_visits t ill)) (p.told ∙ w.5), w.3)
+      (w.0, w.1, intact_exact r (Err (Divided w.0 w.1 (all_visits t ill))) (p.told ∙ w.5), w.3)
 
-  pub spent_only : (k : ℕ) → r ≡ Spent k → Asked t ill × (allowance < all_visits t ill) × (k ≡ allowance)
+  pub spent_only : (k : ℕ) → r ≡ Err (Spent k) → Asked t ill × (allowance < all_visits t ill) × (k ≡ allowance)
   spent_only k e =
       let f : reply 9 (Visits is k ∷ []) ≡ intact_reply t ill allowance = sym (ap intact_says e) ∙ p.told in
       let w = nine_only t ill allowance (sym (ap number_of f)) in
       (w.0, w.1, ap (λ (x : Reply). value x Visits) f ∙ w.2)
 
-  pub spent_whenever : Asked t ill → allowance < all_visits t ill → r ≡ Spent allowance
+  pub spent_whenever : Asked t ill → allowance < all_visits t ill → r ≡ Err (Spent allowance)
   spent_whenever a l = go (outcome t ill allowance a)
     where
-      go : Outcome t ill allowance (intact_reply t ill allowance) → r ≡ Spent allowance
-      go (stopped k f) = intact_exact r (Spent allowance) (p.told ∙ f)
+      go : Outcome t ill allowance (intact_reply t ill allowance) → r ≡ Err (Spent allowance)
+      go (stopped k f) = intact_exact r (Err (Spent allowance)) (p.told ∙ f)
       go (answered k m) = absurd (omega arith)
 
-  pub never_unsplit : ¬ (r ≡ Unsplit)
-  never_unsplit e = never_thirteen t ill allowance (sym (ap number_of p.told) ∙ ap (λ (v : Intact). (intact_says v).number) e)
+  pub never_unsplit : ¬ (r ≡ Err Unsplit)
+  never_unsplit e = never_thirteen t ill allowance (sym (ap number_of p.told) ∙ ap (λ (v : Result Intact Refusal). (intact_says v).number) e)
 
-pub larger_fits : (t : List ℕ) (ill a b : ℕ) (x y : Intact) → IntactPromise t ill a x → IntactPromise t ill b y → a ≤ b → ¬ ((intact_says x).number ≡ 9) → y ≡ x
+pub larger_fits : (t : List ℕ) (ill a b : ℕ) (x y : Result Intact Refusal) → IntactPromise t ill a x → IntactPromise t ill b y → a ≤ b → ¬ ((intact_says x).number ≡ 9) → y ≡ x
 larger_fits t ill a b x y p q l h =
     intact_exact y x (q.told ∙ larger_allowance t ill a b l (λ z. h (ap number_of p.told ∙ z)) ∙ sym p.told)

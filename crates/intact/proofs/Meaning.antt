@@ -8,6 +8,7 @@ use mathlib.Core.Logic.{⊎_elim}
 use Prim.Native.Nat.{ℕ, suc, ◌+◌, ◌^◌, ◌≤◌, ◌<◌}
 use native.Mathlib.Nat.{zero-add}
 use native.Mathlib.Omega.{arith}
+use Rattle.std.specs.Prelude.{Result, Ok, Err}
 use borrow.Author.Tests.{le-leb, lt-leb}
 use lib.Pow.{pow_mono}
 use Rattle.sets.specs.Sets.{nobody, everyone, ◌∖◌, size, within as lies_within}
@@ -24,8 +25,9 @@ use Rattle.theory.proofs.Intact.{start, rounds_answer, intact_answer, intact_div
 use Rattle.faults.proofs.Numbers.{Further, Opened, opened, past_opening, in_allowance_lem, over_allowance}
 use Rattle.satisfaction.proofs.Monotone.{satisfied_monotone}
 use Rattle.answers.specs.Said.{intact_says}
+use Rattle.answers.specs.declared.Refusal.{Refusal}
+use Rattle.answers.specs.declared.Refusal.TheVariants.{Divided, Spent, Unsplit}
 use Rattle.answers.specs.declared.Intact.{Intact}
-use Rattle.answers.specs.declared.Intact.TheVariants.{Are, Divided, Spent, Unsplit}
 use Rattle.answers.proofs.Exact.{intact_exact}
 use Rattle.intact.specs.Rounds.{within, rounds_of}
 use Rattle.intact.specs.Promise.{IntactPromise}
@@ -34,22 +36,22 @@ use Rattle.intact.proofs.Allowance.{visits_of}
 -- ---- an end, and what an allowance makes of it
 
 -- the answer without an allowance
-abbrev pub plain : Ended → Intact
-plain (intact_are q k) = Are q k
-plain (divided p k) = Divided p.first p.second k
-plain (stuck_after k) = Unsplit
+abbrev pub plain : Ended → Result Intact Refusal
+plain (intact_are q k) = Ok (record { set = q; visits = k })
+plain (divided p k) = Err (Divided p.first p.second k)
+plain (stuck_after k) = Err Unsplit
 
 pub in_time_lem : (allowance : ℕ) (e : Ended) → visits_of e ≤ allowance → within allowance 0 e ≡ plain e
 in_time_lem allowance (intact_are q k) l = rw (zero-add k, le-leb k allowance l)
 in_time_lem allowance (divided p k) l = rw (zero-add k, le-leb k allowance l)
 in_time_lem allowance (stuck_after k) l = rw (zero-add k, le-leb k allowance l)
 
-pub too_late : (allowance : ℕ) (e : Ended) → allowance < visits_of e → within allowance 0 e ≡ Spent allowance
+pub too_late : (allowance : ℕ) (e : Ended) → allowance < visits_of e → within allowance 0 e ≡ Err (Spent allowance)
 too_late allowance (intact_are q k) l = rw (zero-add k, lt-leb k allowance l)
 too_late allowance (divided p k) l = rw (zero-add k, lt-leb k allowance l)
 too_late allowance (stuck_after k) l = rw (zero-add k, lt-leb k allowance l)
 
--- the enum says what the reply says
+-- the answer says what the reply says
 pub says_within : (allowance : ℕ) (e : Ended) → intact_says (within allowance 0 e) ≡ reply_says allowance e
 says_within allowance e =
     ⊎_elim (λ l. ap intact_says (in_time_lem allowance e l) ∙ early e l) (λ l. ap intact_says (too_late allowance e l) ∙ late e l) (le-or-lt (visits_of e) allowance)
@@ -59,7 +61,7 @@ says_within allowance e =
     early (divided p k) m = rw (le-leb k allowance m)
     early (stuck_after k) m = rw (le-leb k allowance m)
 
-    late : (e : Ended) → allowance < visits_of e → intact_says (Spent allowance) ≡ reply_says allowance e
+    late : (e : Ended) → allowance < visits_of e → intact_says (Err (Spent allowance)) ≡ reply_says allowance e
     late (intact_are q k) m = rw (lt-leb k allowance m)
     late (divided p k) m = rw (lt-leb k allowance m)
     late (stuck_after k) m = rw (lt-leb k allowance m)
@@ -164,7 +166,7 @@ module _ (t : List ℕ) (ill : ℕ) where
         go (stopped l f) = let y : R.number ≡ 9 = ap number_of f in absurd (omega arith)
 
     -- what is told carries its meaning
-    pub promised : (r : Intact) → intact_says r ≡ R → IntactPromise t ill allowance r
+    pub promised : (r : Result Intact Refusal) → intact_says r ≡ R → IntactPromise t ill allowance r
     promised r e =
         record {
           told = e;
@@ -196,12 +198,12 @@ module _ (t : List ℕ) (ill : ℕ) (h : lies_within ill (everyone (nodes t)) �
       (w.0, w.1, omega arith)
 
   pub rounds_say : (allowance spent : ℕ) → spent + rounds_end.0 ≤ allowance
-      → within allowance spent (rounds_of t (everyone (nodes t) ∖ ill)) ≡ Are (intact_nodes (nodes t) (satisfied t) ill) (spent + rounds_end.0)
+      → within allowance spent (rounds_of t (everyone (nodes t) ∖ ill)) ≡ Ok (record { set = intact_nodes (nodes t) (satisfied t) ill; visits = spent + rounds_end.0 })
   rounds_say allowance spent l = ap (within allowance spent) rounds_end.1 ∙ in_turn_lem
     where
-      in_turn_lem : within allowance spent (intact_are (intact_nodes (nodes t) (satisfied t) ill) rounds_end.0) ≡ Are (intact_nodes (nodes t) (satisfied t) ill) (spent + rounds_end.0)
+      in_turn_lem : within allowance spent (intact_are (intact_nodes (nodes t) (satisfied t) ill) rounds_end.0) ≡ Ok (record { set = intact_nodes (nodes t) (satisfied t) ill; visits = spent + rounds_end.0 })
       in_turn_lem = rw (le-leb (spent + rounds_end.0) allowance l)
 
 -- Two answers that both fit the promise are equal.
-pub intact_unique : (t : List ℕ) (ill allowance : ℕ) (x y : Intact) → IntactPromise t ill allowance x → IntactPromise t ill allowance y → x ≡ y
+pub intact_unique : (t : List ℕ) (ill allowance : ℕ) (x y : Result Intact Refusal) → IntactPromise t ill allowance x → IntactPromise t ill allowance y → x ≡ y
 intact_unique t ill allowance x y p q = intact_exact x y (p.told ∙ sym q.told)

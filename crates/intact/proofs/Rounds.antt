@@ -7,26 +7,24 @@ use Prim.Native.Nat.{ℕ, zero, suc, ◌^◌, ◌<◌}
 use native.Mathlib.Nat.{not-suc-le-zero}
 use native.Mathlib.Omega.{arith}
 use borrow.Author.Tests.{eq-eqb, ne_eqb}
-use lib.Pow.{pow_pos}
-use Rattle.sets.specs.Sets.{nobody, everyone, has, ◌∩◌, ◌∖◌, empty, size}
-use Rattle.sets.proofs.Bools.{clash}
-use Rattle.sets.proofs.Members.{∖_out, ∖-lt, none_in, everyone-lt, sub_antisym}
+use Rattle.std.specs.Prelude.{Ok, Err}
+use Rattle.sets.specs.Sets.{nobody, everyone, ◌∩◌, ◌∖◌, empty, size}
 use Rattle.sets.proofs.Size.{sub-size, size-le}
 use Rattle.meanings.specs.Table.{nodes, satisfied}
-use Rattle.meanings.specs.Quorums.{whole_ground, greatest}
+use Rattle.meanings.specs.Quorums.{greatest}
 use Rattle.meanings.specs.Trees.{Pair, Walk, hit, missed, stuck}
-use Rattle.meanings.specs.Intact.{Ended, ended_later, verdict, next_u, rounds_from, intact_search}
+use Rattle.meanings.specs.Intact.{Ended, ended_later, verdict, next_u, on_round, on_plain, rounds_from, intact_search}
 use Rattle.theory.proofs.Quorum.{Monotone}
 use Rattle.theory.proofs.Greatest.{greatest-lt, greatest-sub}
 use Rattle.theory.proofs.Verdict.{Sound, Decided, all_meet, two_apart, decided}
-use Rattle.theory.proofs.Intact.{ground_others, rounds_step, search_step, next_lt, next_fewer}
+use Rattle.theory.proofs.Intact.{rounds_step, search_step, next_lt, next_fewer}
 use Rattle.satisfaction.proofs.Monotone.{satisfied_monotone}
-use Rattle.answers.specs.declared.Verdict.{Verdict}
+use Rattle.answers.specs.declared.Refusal.{Refusal}
+use Rattle.answers.specs.declared.Refusal.TheVariants as Xx
 use Rattle.answers.specs.declared.Verdict.TheVariants as Vx
 use Rattle.verdict.specs.Search.{within as verdict_within}
-use Rattle.verdict.proofs.Allowance.{NotYes}
-use Rattle.intact.specs.Rounds.{within, on_yes, on_no, rounds_of, Sequel}
-use Rattle.intact.proofs.Allowance.{NotNo, after, round_ends, plain_ends, said-yes, said-no}
+use Rattle.intact.specs.Rounds.{within, rounds_of, Sequel}
+use Rattle.intact.proofs.Allowance.{after, said-yes, said-no, round_refused, round_ends, plain_refused, plain_ends}
 
 module _ (n : ℕ) (s : ℕ → ℕ → Bool) (mono : Monotone s) where
   -- a verdict that finds a pair with all but q counted out leaves fewer than q has
@@ -94,86 +92,79 @@ module _ (n : ℕ) (s : ℕ → ℕ → Bool) (q : ℕ) (p : Pair) (w1 w2 : ℕ)
   pub shared : ¬ (w1 ≡ 0) → ¬ (w2 ≡ 0) → w1 ∩ w2 ≡ next_u n s q p
   shared a b = chosen false false (ne_eqb w1 0 a) (ne_eqb w2 0 b)
 
--- ---- the verdict of a round
-module _ (t : List ℕ) where
+-- ---- a round
+module _ (t : List ℕ) (u allowance spent q : ℕ) (q_is : q ≡ greatest (nodes t) (satisfied t) nobody u) where
   abbrev n : ℕ
   n = nodes t
 
   abbrev s : ℕ → ℕ → Bool
   s = satisfied t
 
-  abbrev others : ℕ → ℕ
-  others q = everyone n ∖ q
+  -- the rounds after it
+  abbrev then_rounds : Pair → Ended
+  then_rounds p = rounds_from n s n (next_u n s q p)
 
-  -- what it asks of the search: with all but q counted out, the ground is q
-  -- with all but q counted out, the ground is q
-  pub counted_out : (all q out : ℕ) → all ≡ everyone n → out ≡ all ∖ q → out ≡ others q
-  counted_out all q out a e = e ∙ ap (λ (x : ℕ). x ∖ q) a
+  -- its verdict: all but q counted out
+  abbrev found : Walk Pair
+  found = verdict n s (everyone n ∖ q)
 
-  pub ground_is : (all q out : ℕ) → q < 2 ^ n → all ≡ everyone n → out ≡ all ∖ q → q ≡ whole_ground n out
-  ground_is all q out h a e = sym (ground_others n s q h) ∙ ap (whole_ground n) (sym (counted_out all q out a e))
+  rounds_are : on_round n s q found then_rounds ≡ rounds_of t u
+  rounds_are =
+      ap (λ (x : ℕ). on_round n s x (verdict n s (everyone n ∖ x)) (λ p. rounds_from n s n (next_u n s x p))) q_is
+      ∙ sym (rounds_step n s n u (verdict n s (everyone n ∖ greatest n s nobody u)) refl)
 
-  module _ (u allowance spent q : ℕ) (q_is : q ≡ greatest n s nobody u) (v : Verdict) (says : v ≡ verdict_within allowance spent (verdict n s (others q))) where
-    verdict_is : v ≡ verdict_within allowance spent (verdict n s (others (greatest n s nobody u)))
-    verdict_is = says ∙ ap (λ (x : ℕ). verdict_within allowance spent (verdict n s (others x))) q_is
+  -- where its verdict is refused, or yes, it is the last
+  pub stops : (e : Refusal) → Err e ≡ verdict_within allowance spent found → Err e ≡ within allowance spent (rounds_of t u)
+  stops e w = round_refused allowance spent n s q found then_rounds e w ∙ ap (within allowance spent) rounds_are
 
-    -- a round at a verdict other than no is the last
-    pub stops : NotNo v → on_yes q v ≡ within allowance spent (rounds_of t u)
-    stops z =
-        let g = greatest n s nobody u in
-        ap (λ (x : ℕ). on_yes x v) q_is
-        ∙ round_ends allowance spent n s g (verdict n s (others g)) (λ p. rounds_from n s n (next_u n s g p)) v verdict_is z
-        ∙ ap (within allowance spent) (sym (rounds_step n s n u (verdict n s (others g)) refl))
+  pub ends : (k : ℕ) → Ok (Vx.Yes k) ≡ verdict_within allowance spent found → Ok (record { set = q; visits = k }) ≡ within allowance spent (rounds_of t u)
+  ends k w = round_ends allowance spent n s q found then_rounds k w ∙ ap (within allowance spent) rounds_are
 
-    -- where it finds a pair, in time, the rounds go on from the next u
-    pub goes_on : (a b k o : ℕ) → v ≡ Vx.No a b k → o ≡ next_u n s q (record { first = a; second = b }) → Sequel t u allowance spent o k
-    goes_on a b k o e f =
-        let g = greatest n s nobody u in
-        let x : Pair = record { first = a; second = b } in
-        let w = said-no allowance spent (verdict n s (others g)) a b k (sym e ∙ verdict_is) in
-        let j = w.0 in
-        let y : o ≡ next_u n s g x = f ∙ ap (λ (m : ℕ). next_u n s m x) q_is in
-        let h = found_fewer n s (satisfied_monotone t) u x j w.1 in
-        let l = size-le n u in
-        let few : size n (next_u n s g x) < n = omega (arith, h.1) in
-        subst (λ (m : ℕ). Sequel t u allowance spent m k) (sym y)
-        (record {
-          inside = h.0;
-          fewer = h.1;
-          same = ap (λ (m : ℕ). within allowance m (rounds_of t (next_u n s g x))) w.2
-              ∙ after allowance spent j (rounds_of t (next_u n s g x))
-              ∙ ap (λ (z : Ended). within allowance spent (ended_later j z)) (larger_bound n s (satisfied_monotone t) n (next_u n s g x) few)
-              ∙ ap (within allowance spent) (sym (rounds_step n s n u (hit x j) w.1));
-        })
+  -- where it finds a pair, in time, the rounds go on from the next u
+  pub goes_on : (a b k o : ℕ) → Ok (Vx.No a b k) ≡ verdict_within allowance spent found → o ≡ next_u n s q (record { first = a; second = b })
+      → Sequel t allowance (record { set = u; visits = spent }) (record { set = o; visits = k })
+  goes_on a b k o e f =
+      let x : Pair = record { first = a; second = b } in
+      let w = said-no allowance spent found a b k e in
+      let j = w.0 in
+      let pair : verdict n s (everyone n ∖ greatest n s nobody u) ≡ hit x j = ap (λ (m : ℕ). verdict n s (everyone n ∖ m)) (sym q_is) ∙ w.1 in
+      let next : o ≡ next_u n s (greatest n s nobody u) x = f ∙ ap (λ (m : ℕ). next_u n s m x) q_is in
+      let h = found_fewer n s (satisfied_monotone t) u x j pair in
+      let l = size-le n u in
+      let few : size n (next_u n s (greatest n s nobody u) x) < n = omega (arith, h.1) in
+      subst (λ (m : ℕ). Sequel t allowance (record { set = u; visits = spent }) (record { set = m; visits = k })) (sym next)
+      (record {
+        inside = h.0;
+        fewer = h.1;
+        same = ap (λ (m : ℕ). within allowance m (rounds_of t (next_u n s (greatest n s nobody u) x))) w.2
+            ∙ after allowance spent j (rounds_of t (next_u n s (greatest n s nobody u) x))
+            ∙ ap (λ (z : Ended). within allowance spent (ended_later j z)) (larger_bound n s (satisfied_monotone t) n (next_u n s (greatest n s nobody u) x) few)
+            ∙ ap (within allowance spent) (sym (rounds_step n s n u (hit x j) pair));
+      })
 
--- ---- the plain verdict first: with all but everyone counted out, nobody is
-nobody_out : (n : ℕ) → everyone n ∖ everyone n ≡ nobody
-nobody_out n =
-    sub_antisym n (everyone n ∖ everyone n) nobody (∖-lt n (everyone n) (everyone n) (everyone-lt n)) (pow_pos n)
-    (λ i p. let w = ∖_out (everyone n) (everyone n) i p in clash (has (everyone n) i) w.0 w.1) (λ i p. none_in nobody i refl p)
+-- ---- the plain verdict first
+module _ (t : List ℕ) (ill allowance : ℕ) where
+  abbrev plainly : Walk Pair
+  plainly = verdict (nodes t) (satisfied t) nobody
 
-module _ (t : List ℕ) (ill allowance all : ℕ) (all_is : all ≡ everyone (nodes t)) (v : Verdict) (says : v ≡ verdict_within allowance 0 (verdict (nodes t) (satisfied t) (everyone (nodes t) ∖ all))) where
-  plainly : v ≡ verdict_within allowance 0 (verdict (nodes t) (satisfied t) nobody)
-  plainly =
-      says
-      ∙ ap (λ (x : ℕ). verdict_within allowance 0 (verdict (nodes t) (satisfied t) (everyone (nodes t) ∖ x))) all_is
-      ∙ ap (λ (x : ℕ). verdict_within allowance 0 (verdict (nodes t) (satisfied t) x)) (nobody_out (nodes t))
+  abbrev then_all : Ended
+  then_all = rounds_of t (everyone (nodes t) ∖ ill)
 
-  -- a plain verdict other than yes ends the question
-  pub plain_stops : NotYes v → on_no v ≡ within allowance 0 (intact_search (nodes t) (satisfied t) ill)
-  plain_stops z =
-      let n = nodes t in
-      let s = satisfied t in
-      plain_ends allowance 0 n s (verdict n s nobody) (rounds_of t (everyone n ∖ ill)) v plainly z
-      ∙ ap (within allowance 0) (sym (search_step n s ill (verdict n s nobody) refl))
+  search_is : on_plain (nodes t) (satisfied t) plainly then_all ≡ intact_search (nodes t) (satisfied t) ill
+  search_is = sym (search_step (nodes t) (satisfied t) ill plainly refl)
+
+  -- where it is refused, or no, it ends the question
+  pub plain_stops : (e : Refusal) → Err e ≡ verdict_within allowance 0 plainly → Err e ≡ within allowance 0 (intact_search (nodes t) (satisfied t) ill)
+  plain_stops e w = plain_refused allowance 0 (nodes t) (satisfied t) plainly then_all e w ∙ ap (within allowance 0) search_is
+
+  pub plain_divides : (a b k : ℕ) → Ok (Vx.No a b k) ≡ verdict_within allowance 0 plainly
+      → Err (Xx.Divided a b k) ≡ within allowance 0 (intact_search (nodes t) (satisfied t) ill)
+  plain_divides a b k w = plain_ends allowance 0 (nodes t) (satisfied t) plainly then_all a b k w ∙ ap (within allowance 0) search_is
 
   -- after a yes, the rounds answer it
-  pub plain_goes_on : (k u : ℕ) → v ≡ Vx.Yes k → u ≡ all ∖ ill → within allowance k (rounds_of t u) ≡ within allowance 0 (intact_search (nodes t) (satisfied t) ill)
-  plain_goes_on k u e f =
-      let n = nodes t in
-      let s = satisfied t in
-      let w = said-yes allowance 0 (verdict n s nobody) k (sym e ∙ plainly) in
-      let j = w.0 in
-      ap₂ (λ (x y : ℕ). within allowance x (rounds_of t y)) w.2 (f ∙ ap (λ (x : ℕ). x ∖ ill) all_is)
-      ∙ after allowance 0 j (rounds_of t (everyone n ∖ ill))
-      ∙ ap (within allowance 0) (sym (search_step n s ill (missed j) w.1))
+  pub plain_goes_on : (k : ℕ) → Ok (Vx.Yes k) ≡ verdict_within allowance 0 plainly → within allowance k then_all ≡ within allowance 0 (intact_search (nodes t) (satisfied t) ill)
+  plain_goes_on k e =
+      let w = said-yes allowance 0 plainly k e in
+      ap (λ (x : ℕ). within allowance x then_all) w.2
+      ∙ after allowance 0 w.0 then_all
+      ∙ ap (within allowance 0) (sym (search_step (nodes t) (satisfied t) ill (missed w.0) w.1))

@@ -2,83 +2,32 @@
 // all their verdicts in turn.
 #![tactic(auto)]
 
-ghost use Rattle.std.specs.Prelude.{◌≡◌, true, suc, ◌<◌, ◌^◌};
+ghost use Rattle.std.specs.Prelude.{◌≡◌, ◌<◌, ◌^◌};
 ghost use Rattle.meanings.specs.Of as of;
-ghost use Rattle.sets.specs.Sets.{everyone, ◌∖◌, within as within_set};
-ghost use Rattle.meanings.specs.Table.{nodes as nodes_of, satisfied};
-ghost use Rattle.meanings.specs.Faults.{check, sound};
-ghost use Rattle.meanings.specs.Trees.{walk};
-ghost use Rattle.meanings.specs.Intact.{next_u, rounds_from};
-ghost use Rattle.plans.specs.Plans.{Planned};
-ghost use Rattle.verdict.specs.Search.{within as verdict_within};
-ghost use Rattle.intact.specs.Rounds.{Asked, Turned, within, handed_on, on_yes, on_no};
+ghost use Rattle.meanings.specs.Table.{nodes, satisfied};
+ghost use Rattle.meanings.specs.Intact.{next_u};
+ghost use Rattle.intact.specs.Rounds.{Turned, rounds_of, within};
 ghost use Rattle.intact.specs.Promise.{IntactPromise};
 
-use answers::{Checked, Intact, Verdict};
+use answers::{Intact, Refusal, Verdict};
+use plans::Plan;
+use std::ops::ControlFlow;
 
-// What a round comes to: the end of the question, or the set to go on from and the visits so far.
+// Where the rounds stand: the nodes left, after so many visits.
 #[derive(Clone, Copy)]
-pub enum Turn {
-    Ended(Intact),
-    Next { u: u64, visits: u64 },
-}
-
-// What a verdict that is neither yes nor no hands on.
-fn handed_on(found: Verdict) -> Intact
-    ensures { result ≡ handed_on found }
-{
-    let Verdict::Spent { visits } = found else {
-        return Intact::Unsplit;
-    };
-    Intact::Spent { visits }
-}
-
-// The end of the rounds at a verdict other than no: where it is yes, q is the answer.
-fn settled(q: u64, found: Verdict) -> Intact
-    ensures { result ≡ on_yes q found }
-{
-    let Verdict::Yes { visits } = found else {
-        return handed_on(found);
-    };
-    Intact::Are { set: q, visits }
-}
-
-// The end of the question at a plain verdict other than yes: where it is no, the system is divided.
-fn divided(found: Verdict) -> Intact
-    ensures { result ≡ on_no found }
-{
-    let Verdict::No {
-        first,
-        second,
-        visits,
-    } = found
-    else {
-        return handed_on(found);
-    };
-    Intact::Divided {
-        first,
-        second,
-        visits,
-    }
-}
-
-// Do all quorums intersect, with all but q counted out? Where q is all nodes, this is the plain verdict.
-fn verdict_of(t: &[u64], plan: &[u64], all: u64, q: u64, allowance: u64, spent: u64) -> Verdict
-    requires { Asked t.now plan.now all q }
-    ensures { result ≡ verdict_within allowance spent (walk (of.verdict_tree t.now (everyone (nodes_of t.now) ∖ q))) }
-{
-    let out = sets::without(all, q);
-    verdict::search_from(t, plan, out, q, allowance, spent)
+pub struct Left {
+    pub set: u64,
+    pub visits: u64,
 }
 
 // Where to go on after a round that found two quorums apart in q: W1 and W2 are the greatest plain quorums in q without the first and
 // without the second; W2 if W1 is empty, W1 if W2 is empty, otherwise what they share.
-fn next(t: &[u64], plan: &[u64], q: u64, first: u64, second: u64) -> u64
-    requires { (Planned t.now plan.now) × (q < 2 ^ nodes_of t.now) }
-    ensures { result ≡ next_u (nodes_of t.now) (satisfied t.now) q (record { first = first; second = second }) }
+fn next(plan: &Plan, q: u64, first: u64, second: u64) -> u64
+    requires { q < 2 ^ nodes plan.now }
+    ensures { result ≡ next_u (nodes plan.now) (satisfied plan.now) q (record { first = first; second = second }) }
 {
-    let w1 = greatest::plain(t, plan, sets::without(q, first));
-    let w2 = greatest::plain(t, plan, sets::without(q, second));
+    let w1 = greatest::plain(plan, sets::without(q, first));
+    let w2 = greatest::plain(plan, sets::without(q, second));
     if w1 == 0 {
         return w2;
     }
@@ -88,82 +37,73 @@ fn next(t: &[u64], plan: &[u64], q: u64, first: u64, second: u64) -> u64
     w1 & w2
 }
 
-// One round from the nodes left, after so many visits: q is the greatest plain quorum in them, and the verdict with all but q counted out decides.
-fn round(t: &[u64], plan: &[u64], all: u64, left: u64, allowance: u64, spent: u64) -> Turn
-    requires { Asked t.now plan.now all left }
-    ensures { Turned t.now left allowance spent result }
+// One round: q is the greatest plain quorum in the nodes left, and the verdict with all but q counted out decides. The rounds end with q, or go on
+// from fewer nodes.
+fn round(plan: &Plan, left: Left, allowance: u64) -> Result<ControlFlow<Intact, Left>, Refusal>
+    requires { left.set < 2 ^ nodes plan.now }
+    ensures { Turned plan.now allowance left result }
 {
-    let q = greatest::plain(t, plan, left);
-    let found = verdict_of(t, plan, all, q, allowance, spent);
-    let Verdict::No {
-        first,
-        second,
-        visits,
-    } = found
-    else {
-        return Turn::Ended(settled(q, found));
-    };
-    let u = next(t, plan, q, first, second);
-    Turn::Next { u, visits }
+    let q = greatest::plain(plan, left.set);
+    let out = sets::without(plan.table().all(), q);
+    let found = verdict::search_from(plan, out, allowance, left.visits)?;
+    match found {
+        Verdict::Yes { visits } => Ok(ControlFlow::Break(Intact { set: q, visits })),
+        Verdict::No {
+            first,
+            second,
+            visits,
+        } => {
+            let u = next(plan, q, first, second);
+            Ok(ControlFlow::Continue(Left { set: u, visits }))
+        }
+    }
 }
 
-// The rounds from u on, after so many visits. A round that is not the last leaves fewer nodes, so the rounds end.
-fn rounds_from(t: &[u64], plan: &[u64], all: u64, u: u64, allowance: u64, spent: u64) -> Intact
-    requires { Asked t.now plan.now all u }
-    ensures { result ≡ within allowance spent (rounds_from (nodes_of t.now) (satisfied t.now) (suc (nodes_of t.now)) u) }
+// The rounds from here on. A round that is not the last leaves fewer nodes, so the rounds end.
+fn rounds_from(plan: &Plan, from: Left, allowance: u64) -> Result<Intact, Refusal>
+    requires { from.set < 2 ^ nodes plan.now }
+    ensures { result ≡ within allowance from.visits (rounds_of plan.now from.set) }
 {
-    let mut left = u;
-    let mut visits = spent;
+    let mut left = from;
     loop {
-        let turn = round(t, plan, all, left, allowance, visits);
+        let turn = round(plan, left, allowance)?;
         match turn {
-            Turn::Ended(answer) => return answer,
-            Turn::Next {
-                u: after,
-                visits: so_far,
-            } => {
-                left = after;
-                visits = so_far;
-            }
+            ControlFlow::Break(answer) => return Ok(answer),
+            ControlFlow::Continue(rest) => left = rest,
         }
     }
 }
 
 // The plain verdict, and where it is yes the rounds, from all nodes outside the ill set on, after its visits.
-fn verdict_then_rounds(t: &[u64], plan: &[u64], all: u64, ill: u64, allowance: u64) -> Intact
-    requires { Asked t.now plan.now all ill }
-    ensures { result ≡ within allowance 0 (of.intact_search t.now ill) }
+fn verdict_then_rounds(plan: &Plan, ill: u64, allowance: u64) -> Result<Intact, Refusal>
+    ensures { result ≡ within allowance 0 (of.intact_search plan.now ill) }
 {
-    let plain = verdict_of(t, plan, all, all, allowance, 0);
-    let Verdict::Yes { visits } = plain else {
-        return divided(plain);
-    };
-    let well = sets::without(all, ill);
-    rounds_from(t, plan, all, well, allowance, visits)
-}
-
-// The intact nodes of a sound table, for an ill set of its nodes.
-fn intact_of(t: &[u64], nodes: u64, ill: u64, allowance: u64) -> Intact
-    requires { (check t.now ≡ sound) × (nodes ≡ nodes_of t.now) × (within_set ill (everyone (nodes_of t.now)) ≡ true) }
-    ensures { result ≡ within allowance 0 (of.intact_search t.now ill) }
-{
-    let mut plan = [0u64; 192];
-    plans::plan(t, &mut plan);
-    let all = sets::all(nodes);
-    verdict_then_rounds(t, &plan, all, ill, allowance)
+    let plain = verdict::search_from(plan, 0, allowance, 0)?;
+    match plain {
+        Verdict::Yes { visits } => {
+            let well = sets::without(plan.table().all(), ill);
+            rounds_from(plan, Left { set: well, visits }, allowance)
+        }
+        Verdict::No {
+            first,
+            second,
+            visits,
+        } => Err(Refusal::Divided {
+            first,
+            second,
+            visits,
+        }),
+    }
 }
 
 // Which nodes are intact for an ill set: those that some DSet around the ill set leaves out. Answered only where all plain quorums
 // intersect; elsewhere two that do not are handed over.
-pub fn intact_nodes(table: &[u64], ill: u64, allowance: u64) -> Intact
+pub fn intact_nodes(table: &[u64], ill: u64, allowance: u64) -> Result<Intact, Refusal>
     ensures { IntactPromise table.now ill allowance result }
 {
-    let checked = faults::check_table(table);
-    let Checked::Sound { nodes, records: _ } = checked else {
-        return Intact::Bad(faults::fault_of(checked));
-    };
-    if !faults::inside(ill, nodes) {
-        return Intact::Outside;
+    let table = faults::sound_table(table)?;
+    if !faults::inside(ill, table.nodes()) {
+        return Err(Refusal::Outside);
     }
-    intact_of(table, nodes, ill, allowance)
+    verdict_then_rounds(&Plan::new(&table), ill, allowance)
 }

@@ -2,25 +2,24 @@
 // and its record is two words.
 #![tactic(auto)]
 
-ghost use Rattle.std.specs.Prelude.{◌≡◌, ◌-◌, ◌≤◌, ◌<◌, length, take, drop};
-ghost use Rattle.intake.specs.Intake.{FitsIn, filled_is, Widens, Hears, TakesIn};
+ghost use Rattle.std.specs.Prelude.{◌≡◌, ◌≤◌, length};
+ghost use Rattle.intake.specs.Intake.{FitsIn, filled_is, Widens, Hears, Reaches, Judges, TakesIn};
 
-use answers::{Checked, Fault, Read};
-use lines::Line;
+use answers::{Fault, Refusal};
+use sheets::Lines;
 use std::io;
 
 // How many bytes of the window there are, and whether the input has ended behind them.
-#[derive(Drop)]
+#[derive(Clone, Copy)]
 struct Window {
     count: usize,
     ended: bool,
 }
 
-// What the lines came to, the first whose threshold is a written 0, whether the input had ended by then, and how many bytes were read.
-#[derive(Drop)]
+// What the lines came to, whether the input had ended by then, and how many bytes were read.
+#[derive(Clone, Copy)]
 struct Heard {
-    read: Read,
-    nought: u64,
+    lines: Result<Lines, Refusal>,
     ended: bool,
     bytes: usize,
 }
@@ -30,36 +29,23 @@ fn filled(len: usize, got: io::Result<usize>) -> io::Result<Window>
     requires { FitsIn len got }
     ensures { result ≡ filled_is len got }
 {
-    let count = got?;
-    let all = len + count;
+    let count = len + got?;
     Ok(Window {
-        count: all,
-        ended: all < 512,
+        count,
+        ended: count < 512,
     })
 }
 
 // Reads on where the bytes at hand may be less than a line.
-fn widen<R: io::Read>(from: &mut R, buf: &mut [u8], len: usize, ended: bool) -> io::Result<Window>
-    requires { (length buf.old ≡ 512) × (len ≤ 512) }
-    ensures { Widens len buf.old buf.new result }
+fn widen<R: io::Read>(from: &mut R, buf: &mut [u8], window: Window) -> io::Result<Window>
+    requires { (length buf.old ≡ 512) × (window.count ≤ 512) }
+    ensures { Widens window.count buf.old buf.new result }
 {
-    if ended || 188 <= len {
-        return Ok(Window { count: len, ended });
+    if window.ended || 188 <= window.count {
+        return Ok(window);
     }
-    let got = input::read_all(from, &mut buf[len..]);
-    filled(len, got)
-}
-
-// Drops the first bytes of the window: the others move to the front.
-fn shift(buf: &mut [u8], used: usize, len: usize)
-    requires { (used ≤ len) × (len ≤ length buf.old) }
-    ensures { (take (len - used) buf.new ≡ take (len - used) (drop used buf.old)) × (length buf.new ≡ length buf.old) }
-{
-    let mut i = 0;
-    while i < len - used {
-        buf[i] = buf[used + i];
-        i += 1;
-    }
+    let got = input::read_all(from, &mut buf[window.count..]);
+    filled(window.count, got)
 }
 
 // The lines in turn, each judged when it is there as a whole.
@@ -68,65 +54,41 @@ fn hear<R: io::Read>(from: &mut R, words: &mut [u64]) -> io::Result<Heard>
     ensures { Hears words.new result }
 {
     let mut buf = [0u8; 512];
-    let mut len = 0;
-    let mut end = false;
+    let mut window = Window {
+        count: 0,
+        ended: false,
+    };
     let mut bytes = 0;
     let mut r = 0;
     let mut nought = 0;
-    loop {
-        let Window { count, ended } = widen(from, &mut buf, len, end)?;
-        bytes += count - len;
-        if count == 0 {
-            return Ok(Heard {
-                read: Read::Words { count: 2 * r },
+    // A window may bring the line that is one too many, so the lines are counted here and not by a `for`.
+    let lines = loop {
+        let held = window.count;
+        window = widen(from, &mut buf, window)?;
+        bytes += window.count - held;
+        if window.count == 0 {
+            break Ok(Lines {
+                count: 2 * r,
                 nought,
-                ended,
-                bytes,
             });
         }
         if r == 256 {
-            return Ok(Heard {
-                read: Read::Bad(Fault::Count(257)),
-                nought,
-                ended,
-                bytes,
-            });
+            break Err(Refusal::Bad(Fault::Count(257)));
         }
-        let Line::Good {
-            level,
-            threshold,
-            nought: here,
-            members,
-            used,
-        } = lines::line_at(&buf[..count], 0)
-        else {
-            return Ok(Heard {
-                read: Read::Malformed { line: r + 1 },
-                nought,
-                ended,
-                bytes,
-            });
+        let Some((line, used)) = lines::line_at(&buf[..window.count], 0) else {
+            break Err(Refusal::Malformed { line: r + 1 });
         };
-        sheets::put_record(words, r, level, threshold, members);
-        nought = sheets::first_nought(nought, here, r + 1);
-        shift(&mut buf, used, count);
-        len = count - used;
-        end = ended;
+        sheets::put_record(words, r, line);
+        nought = sheets::first_nought(nought, line.threshold, r + 1);
+        buf.copy_within(used..window.count, 0);
+        window.count -= used;
         r += 1;
-    }
-}
-
-// How many bytes to read next, so many being read: a window, or what is left of 65,536 bytes.
-fn next(bytes: usize) -> usize
-    ensures { (result ≤ 512) × (bytes < 65536 → 0 < result) }
-{
-    if bytes < 65024 {
-        return 512;
-    }
-    if bytes < 65536 {
-        return 65536 - bytes;
-    }
-    0
+    };
+    Ok(Heard {
+        lines,
+        ended: window.ended,
+        bytes,
+    })
 }
 
 // Reads so many bytes more, which nobody looks at.
@@ -144,9 +106,8 @@ fn rest<R: io::Read>(from: &mut R, ended: bool, bytes: usize) -> io::Result<()> 
     }
     let mut before = bytes;
     while before < 65536 {
-        let n = next(before);
-        let count = skip(from, n)?;
-        if count < n {
+        let n = usize::min(512, 65536 - before);
+        if skip(from, n)? < n {
             return Ok(());
         }
         before += n;
@@ -154,29 +115,22 @@ fn rest<R: io::Read>(from: &mut R, ended: bool, bytes: usize) -> io::Result<()> 
     Ok(())
 }
 
+// The answer to reading a sheet, from what its lines come to.
+fn judged(lines: Result<Lines, Refusal>, words: &[u64]) -> Result<u64, Refusal>
+    requires { Reaches lines (length words.now) }
+    ensures { Judges lines words.now result }
+{
+    let Lines { count, nought } = lines?;
+    faults::check_lines(&words[..count as usize], nought)?;
+    Ok(count)
+}
+
 // The sheet that the input holds, read into a table: the answer to reading it, or the error of a failed read.
-pub fn take<R: io::Read>(from: &mut R, table: &mut [u64]) -> io::Result<Read>
+pub fn take<R: io::Read>(from: &mut R, table: &mut [u64]) -> io::Result<Result<u64, Refusal>>
     requires { length table.old ≡ 512 }
     ensures { TakesIn table.new result }
 {
-    let Heard {
-        read,
-        nought,
-        ended,
-        bytes,
-    } = hear(from, table)?;
-    rest(from, ended, bytes)?;
-    let Read::Words { count } = read else {
-        return Ok(read);
-    };
-    let k = count as usize;
-    let checked = faults::check_lines(&table[..k], nought);
-    let Checked::Sound {
-        nodes: _,
-        records: _,
-    } = checked
-    else {
-        return Ok(Read::Bad(faults::fault_of(checked)));
-    };
-    Ok(read)
+    let heard = hear(from, table)?;
+    rest(from, heard.ended, heard.bytes)?;
+    Ok(judged(heard.lines, table))
 }

@@ -1,5 +1,6 @@
 // The C interface, for technicians: each function of `interface` under its C name, with the same promise. C callers find it in the archive
 // libinterface.a, and its declarations in include/breezedrum.h.
+// The C interface needs each function once more: a crate is a library for other crates or one for C.
 #![tactic(auto)]
 
 ghost use Rattle.meanings.specs.Of as of;

@@ -8,7 +8,7 @@ use borrow.Author.Tests.{ne_eqb}
 use lib.ListN.{length, length-append}
 use Rattle.decimal.specs.Decimal.{numeral}
 use Rattle.decimal.proofs.Order.{same_or_not}
-use Rattle.decimal.proofs.Numeral.{length_digit, length_byte}
+use Rattle.decimal.proofs.Numeral.{length_digit, length_byte, length_word}
 use Rattle.members.specs.Members.{member_text}
 use Rattle.members.proofs.Written.{length-members}
 use Rattle.lines.specs.Lines.{field_text, threshold_text, last_text, line_text}
@@ -41,6 +41,9 @@ length_fields l t m =
 
 pub length-line : (l t m : ℕ) → length (line_text l t m) ≡ length (numeral l) + length (numeral t) + length (member_text m) + 3
 length-line l t m = omega (arith, length_fields l t m, length_field l, length-threshold t, length_field t, length_last m)
+
+-- what a sum of the lengths of the parts goes by
+pub ruleset lengths = (length-line, length_word, length-members)
 
 -- the longest line
 pub length_most : (l t m : ℕ) → l ≤ 3 → t ≤ 255 → length (line_text l t m) ≤ 188

@@ -5,99 +5,76 @@ ghost use Rattle.std.specs.Prelude.{◌≡◌, ◌≤◌, length, drop};
 ghost use Rattle.decimal.specs.Bytes.{Written};
 ghost use Rattle.lines.specs.Lines.{field_text, threshold_text, last_text, line_text, read_field, read_threshold, read_last, read_line};
 
-use decimal::Number;
-use members::Members;
-
-// A threshold, whether it is a written 0, and how many bytes it took with the tab behind it.
+// A record as its line has it: the threshold is a number, or none for the `?` of an unknown archive.
 #[derive(Clone, Copy)]
-pub enum Threshold {
-    Got(u64, bool, usize),
-    Bad,
+pub struct Line {
+    pub level: u64,
+    pub threshold: Option<u64>,
+    pub members: u64,
 }
 
-// A record, whether its threshold is a written 0, and how many bytes its line took.
-#[derive(Clone, Copy)]
-pub enum Line {
-    Good {
-        level: u64,
-        threshold: u64,
-        nought: bool,
-        members: u64,
-        used: usize,
-    },
-    Bad,
-}
-
-// The number at the start of s, which a tab must follow.
-pub fn read_field(s: &[u8]) -> Number
+// The number at the start of s, which a tab must follow, and how many bytes both took.
+#[tactic(auto, unfolding(crate::specs::Lines::read_field))]
+pub fn read_field(s: &[u8]) -> Option<(u64, usize)>
     ensures { result ≡ read_field s.now }
 {
-    let Number::Got(v, k) = decimal::read_number(s) else {
-        return Number::Bad;
-    };
-    if decimal::byte_at(s, k) == 9 {
-        return Number::Got(v, k + 1);
+    let (v, k) = decimal::read_number(s)?;
+    if decimal::byte_at(s, k) != b'\t' {
+        return None;
     }
-    Number::Bad
+    Some((v, k + 1))
 }
 
 // The threshold at the start of s, which a tab must follow: a number, or at level 0 the `?` of an unknown archive.
-pub fn read_threshold(s: &[u8], level: u64) -> Threshold
+#[tactic(auto, unfolding(crate::specs::Lines::read_threshold))]
+pub fn read_threshold(s: &[u8], level: u64) -> Option<(Option<u64>, usize)>
     ensures { result ≡ read_threshold level s.now }
 {
-    if decimal::byte_at(s, 0) == 63 {
-        if level == 0 && decimal::byte_at(s, 1) == 9 {
-            return Threshold::Got(0, false, 2);
+    if decimal::byte_at(s, 0) == b'?' {
+        if level == 0 && decimal::byte_at(s, 1) == b'\t' {
+            return Some((None, 2));
         }
-        return Threshold::Bad;
+        return None;
     }
-    let Number::Got(v, k) = read_field(s) else {
-        return Threshold::Bad;
-    };
-    Threshold::Got(v, v == 0, k)
+    let (v, k) = read_field(s)?;
+    Some((Some(v), k))
 }
 
 // The member list at the start of s, which the line's end must follow.
-pub fn read_last(s: &[u8]) -> Members
+#[tactic(auto, unfolding(crate::specs::Lines::read_last))]
+// It shares one test with `read_field`, of another byte, and reads something else; one function for both would be no plainer.
+pub fn read_last(s: &[u8]) -> Option<(u64, usize)>
     ensures { result ≡ read_last s.now }
 {
-    let Members::Got(m, k) = members::read_members(s) else {
-        return Members::Bad;
-    };
-    if decimal::byte_at(s, k) == 10 {
-        return Members::Got(m, k + 1);
+    let (m, k) = members::read_members(s)?;
+    if decimal::byte_at(s, k) != b'\n' {
+        return None;
     }
-    Members::Bad
+    Some((m, k + 1))
 }
 
-// The line at the start of s. Each field is read from where the one before ended.
-pub fn read_line(s: &[u8]) -> Line
+// The line at the start of s, and how many bytes it took. Each field is read from where the one before ended.
+#[tactic(auto, unfolding(crate::specs::Lines::read_line))]
+pub fn read_line(s: &[u8]) -> Option<(Line, usize)>
     ensures { result ≡ read_line s.now }
 {
-    let Number::Got(level, a) = read_field(s) else {
-        return Line::Bad;
-    };
+    let (level, a) = read_field(s)?;
     if 3 < level {
-        return Line::Bad;
+        return None;
     }
-    let Threshold::Got(threshold, nought, b) = read_threshold(&s[a..], level) else {
-        return Line::Bad;
-    };
+    let (threshold, b) = read_threshold(&s[a..], level)?;
     let at = a + b;
-    let Members::Got(members, k) = read_last(&s[at..]) else {
-        return Line::Bad;
-    };
-    Line::Good {
+    let (members, k) = read_last(&s[at..])?;
+    let line = Line {
         level,
         threshold,
-        nought,
         members,
-        used: at + k,
-    }
+    };
+    Some((line, at + k))
 }
 
 // The line that starts where the one before ended.
-pub fn line_at(s: &[u8], at: usize) -> Line
+pub fn line_at(s: &[u8], at: usize) -> Option<(Line, usize)>
     requires { at ≤ length s.now }
     ensures { result ≡ read_line (drop at s.now) }
 {
@@ -105,6 +82,7 @@ pub fn line_at(s: &[u8], at: usize) -> Line
 }
 
 // How many bytes the line of a record takes: its fields, two tabs and the line's end.
+#[tactic(auto, using(crate::proofs::Texts::lengths))]
 pub fn line_len(level: u64, threshold: u64, members: u64) -> usize
     ensures { result ≡ length (line_text level threshold members) }
 {
@@ -112,12 +90,13 @@ pub fn line_len(level: u64, threshold: u64, members: u64) -> usize
 }
 
 // Writes n and a tab at the front of out, and answers how many bytes that took.
+#[tactic(auto, using(crate::proofs::Texts::length_field))]
 pub fn put_field(out: &mut [u8], n: u64) -> usize
     requires { length (field_text n) ≤ length out.old }
     ensures { Written (field_text n) out.old out.new result }
 {
     let k = decimal::put_number(out, n);
-    out[k] = 9;
+    out[k] = b'\t';
     k + 1
 }
 
@@ -127,20 +106,21 @@ pub fn put_threshold(out: &mut [u8], threshold: u64) -> usize
     ensures { Written (threshold_text threshold) out.old out.new result }
 {
     if threshold == 0 {
-        out[0] = 63;
-        out[1] = 9;
+        out[0] = b'?';
+        out[1] = b'\t';
         return 2;
     }
     put_field(out, threshold)
 }
 
 // Writes the list of m and the line's end at the front of out, and answers how many bytes that took.
+#[tactic(auto, using(crate::proofs::Texts::length_last))]
 pub fn put_last(out: &mut [u8], m: u64) -> usize
     requires { length (last_text m) ≤ length out.old }
     ensures { Written (last_text m) out.old out.new result }
 {
     let k = members::put_members(out, m);
-    out[k] = 10;
+    out[k] = b'\n';
     k + 1
 }
 

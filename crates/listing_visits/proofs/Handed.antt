@@ -10,6 +10,7 @@ use Rattle.sets.specs.Sets.{has, nobody, everyone, only, ◌∪◌, ◌∖◌, w
 use Rattle.sets.proofs.Bools.{either, clash, fails}
 use Rattle.sets.proofs.Members.{In, Sub, has-nobody, has_below, has-everyone, everyone-lt, ∪-left, ∪_right, ∪_cases, ∪-lt, ∩_out, ∖_in, ∖_out, ∖-lt, only_in, only_out, none_in, sub_antisym, sub_within, within-sub}
 use Rattle.meanings.specs.Table.{nodes, satisfied}
+use Rattle.meanings.specs.Faults.{check, sound}
 use Rattle.meanings.specs.Quorums.{quorum, greatest, holds_quorum}
 use Rattle.theory.proofs.Quorum.{quorum_is, is_quorum, a_node}
 use Rattle.theory.proofs.Greatest.{greatest-lt, greatest-sub, greatest-from, greatest-has, greatest_grows, greatest-quorum, greatest-holds, holds-greatest}
@@ -22,25 +23,10 @@ use Rattle.quorum_visits.specs.declared.Visit.{Visit}
 use Rattle.quorum_visits.specs.Visits as Branches
 use Rattle.listing_visits.specs.declared.Sought.{Sought}
 use Rattle.listing_visits.specs.declared.Sought.TheVariants.{Quorums, Blocking}
-use Rattle.listing_visits.specs.Visits.{Ground, Stands, Known, KnownBlocking, ReadyBlocking, Below}
-
--- ---- minimal quorums: what the branches know
-module _ (t plan : List ℕ) (all : ℕ) (a : Visit) (S : Stands t plan all Quorums a) (v c : ℕ) (b : Visit) where
-  pub as_branch : Branches.Below t plan nobody a v c b → Below t plan all Quorums a v c b
-  as_branch B =
-      record {
-        stands = record {
-          footing = S.footing;
-          chosen_in = B.stands.waiting.below;
-          open_in = B.stands.open_in;
-          known = B.stands;
-        };
-        chosen_are = B.chosen_are;
-        open_are = B.open_are;
-      }
+use Rattle.listing_visits.specs.Visits.{Stands, Known, KnownBlocking, ReadyBlocking, Below}
 
 -- ---- blocking sets
-module _ (t plan : List ℕ) (all : ℕ) (a : Visit) (S : Stands t plan all Blocking a) (v : ℕ) (R : ReadyBlocking t a v) where
+module _ (t : List ℕ) (a : Visit) (S : Stands t Blocking a) (v : ℕ) (R : ReadyBlocking t a v) where
   abbrev m : ℕ
   m = nodes t
 
@@ -58,7 +44,7 @@ module _ (t plan : List ℕ) (all : ℕ) (a : Visit) (S : Stands t plan all Bloc
 
   pub open_64 : v < 64
   open_64 =
-      let m64 = (sound_table t S.footing.planned.checked).nodes-le in
+      let small = S.small in
       let l = open_lt in
       omega arith
 
@@ -93,13 +79,13 @@ module _ (t plan : List ℕ) (all : ℕ) (a : Visit) (S : Stands t plan all Bloc
       (either (has q v))
 
   pub leave_blocking : (one r : ℕ) → one ≡ only v → r ≡ a.r ∖ only v
-      → Below t plan all Blocking a v a.c (record { c = a.c; r = r; g = a.g; due = one; grown = false })
+      → Below t Blocking a v a.c (record { c = a.c; r = r; g = a.g; due = one; grown = false })
   leave_blocking one r eo er =
-      subst (λ (x : ℕ). Below t plan all Blocking a v a.c (record { c = a.c; r = r; g = a.g; due = x; grown = false })) (sym eo)
-      (subst (λ (x : ℕ). Below t plan all Blocking a v a.c (record { c = a.c; r = x; g = a.g; due = only v; grown = false })) (sym er)
+      subst (λ (x : ℕ). Below t Blocking a v a.c (record { c = a.c; r = r; g = a.g; due = x; grown = false })) (sym eo)
+      (subst (λ (x : ℕ). Below t Blocking a v a.c (record { c = a.c; r = x; g = a.g; due = only v; grown = false })) (sym er)
       (record {
         stands = record {
-          footing = S.footing;
+          small = S.small;
           chosen_in = S.chosen_in;
           open_in = ∖-lt m a.r (only v) S.open_in;
           known = record {
@@ -152,13 +138,13 @@ module _ (t plan : List ℕ) (all : ℕ) (a : Visit) (S : Stands t plan all Bloc
       (∪_cases a.c a.r i p))
 
   pub take-blocking : (one r g : ℕ) → one ≡ only v → r ≡ a.r ∖ only v → g ≡ holding nobody (greatest m σ nobody (a.g ∖ only v))
-      → Below t plan all Blocking a v (a.c ∪ only v) (record { c = a.c ∪ one; r = r; g = g; due = nobody; grown = true })
+      → Below t Blocking a v (a.c ∪ only v) (record { c = a.c ∪ one; r = r; g = g; due = nobody; grown = true })
   take-blocking one r g eo er eg =
-      subst (λ (x : ℕ). Below t plan all Blocking a v (a.c ∪ only v) (record { c = a.c ∪ x; r = r; g = g; due = nobody; grown = true })) (sym eo)
-      (subst (λ (x : ℕ). Below t plan all Blocking a v (a.c ∪ only v) (record { c = a.c ∪ only v; r = x; g = g; due = nobody; grown = true })) (sym er)
+      subst (λ (x : ℕ). Below t Blocking a v (a.c ∪ only v) (record { c = a.c ∪ x; r = r; g = g; due = nobody; grown = true })) (sym eo)
+      (subst (λ (x : ℕ). Below t Blocking a v (a.c ∪ only v) (record { c = a.c ∪ only v; r = x; g = g; due = nobody; grown = true })) (sym er)
       (record {
         stands = record {
-          footing = S.footing;
+          small = S.small;
           chosen_in = ∪-lt m a.c (only v) S.chosen_in (pow-lt open_lt);
           open_in = ∖-lt m a.r (only v) S.open_in;
           known = record {
@@ -173,7 +159,7 @@ module _ (t plan : List ℕ) (all : ℕ) (a : Visit) (S : Stands t plan all Bloc
       }))
 
 -- ---- the first visit: no node chosen, all open
-module _ (t plan : List ℕ) (all : ℕ) (G : Ground t plan all) where
+module _ (t : List ℕ) {all : ℕ} (G : all ≡ everyone (nodes t)) where
   abbrev k : ℕ
   k = nodes t
 
@@ -181,14 +167,14 @@ module _ (t plan : List ℕ) (all : ℕ) (G : Ground t plan all) where
   τ = satisfied t
 
   pub all-lt : all < 2 ^ k
-  all-lt = subst (λ (x : ℕ). x < 2 ^ k) (sym G.whole) (everyone-lt k)
+  all-lt = subst (λ (x : ℕ). x < 2 ^ k) (sym G) (everyone-lt k)
 
-  module _ (B : Branches.Stands t plan nobody (Branches.root_is t nobody all)) where
+  module _ (B : Branches.Stands t nobody (Branches.root_is t nobody all)) where
     all_out : everyone k ∖ nobody ≡ all
     all_out =
         sub_antisym k (everyone k ∖ nobody) all (∖-lt k (everyone k) nobody (everyone-lt k)) all-lt
-        (λ i p. subst (λ (x : ℕ). In x i) (sym G.whole) (∖_out (everyone k) nobody i p).0)
-        (λ i p. ∖_in (everyone k) nobody i (subst (λ (x : ℕ). In x i) G.whole p) (has-nobody i))
+        (λ i p. subst (λ (x : ℕ). In x i) (sym G) (∖_out (everyone k) nobody i p).0)
+        (λ i p. ∖_in (everyone k) nobody i (subst (λ (x : ℕ). In x i) G p) (has-nobody i))
 
     none_there : holds_quorum k τ nobody (everyone k ∖ (nobody ∪ all)) ≡ false
     none_there =
@@ -196,9 +182,9 @@ module _ (t plan : List ℕ) (all : ℕ) (G : Ground t plan all) where
         let z = holds-greatest k τ nobody (everyone k ∖ (nobody ∪ all)) e in
         let w = a_node k τ (greatest k τ nobody (everyone k ∖ (nobody ∪ all))) (greatest-lt k τ nobody (everyone k ∖ (nobody ∪ all))) z in
         let o = ∖_out (everyone k) (nobody ∪ all) w.0 (greatest-sub k τ nobody (everyone k ∖ (nobody ∪ all)) w.0 w.1) in
-        clash (has (nobody ∪ all) w.0) (∪_right nobody all w.0 (subst (λ (x : ℕ). In x w.0) (sym G.whole) o.0)) o.1)
+        clash (has (nobody ∪ all) w.0) (∪_right nobody all w.0 (subst (λ (x : ℕ). In x w.0) (sym G) o.0)) o.1)
 
-    known_first : (sought : Sought) → Known t plan sought (Branches.root_is t nobody all)
+    known_first : (sought : Sought) → Known t sought (Branches.root_is t nobody all)
     known_first Quorums = B
     known_first Blocking =
         record {
@@ -208,8 +194,8 @@ module _ (t plan : List ℕ) (all : ℕ) (G : Ground t plan all) where
           due_all = λ q e f. none_within q;
         }
 
-    pub starts : (sought : Sought) → Stands t plan all sought (Branches.root_is t nobody all)
-    starts sought = record { footing = G; chosen_in = pow_pos k; open_in = all-lt; known = known_first sought }
+    pub starts : check t ≡ sound → (sought : Sought) → Stands t sought (Branches.root_is t nobody all)
+    starts checked sought = record { small = (sound_table t checked).nodes-le; chosen_in = pow_pos k; open_in = all-lt; known = known_first sought }
 
 -- a quorum outside c and r has the nodes that are due
 pub due_there : (t : List ℕ) (a : Visit) → KnownBlocking t a

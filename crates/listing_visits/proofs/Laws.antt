@@ -3,12 +3,11 @@
 use mathlib.Core.Path.{◌≡◌, refl, sym, ap, ◌∙◌, subst}
 use mathlib.Core.Bool.{Bool, true, false, not}
 use mathlib.Core.Logic.{⊎_elim}
-use Prim.Native.Nat.{ℕ, ◌^◌, ◌≤◌, ◌<◌}
-use native.Mathlib.Omega.{arith}
-use lib.Pow.{pow_mono, pow-lt}
+use Prim.Native.Nat.{ℕ, ◌^◌, ◌<◌}
+use lib.Pow.{pow-lt}
 use Rattle.sets.specs.Sets.{has, nobody, everyone, only, ◌∖◌, empty, within, size, lowest}
 use Rattle.sets.proofs.Bools.{either, clash, fails, not-holds}
-use Rattle.sets.proofs.Members.{In, Sub, has-nobody, has_below, has-everyone, ∖_in, ∖_out, ∖-lt, only_in, only_out, none_in, sub_antisym, sub_within, within-sub}
+use Rattle.sets.proofs.Members.{In, Sub, has-nobody, has_below, has-everyone, ∖_in, ∖_out, ∖-lt, only_in, only_out, none_in, sub_antisym, sub_within, within-sub, within-lt}
 use Rattle.sets.proofs.Size.{size-lt}
 use Rattle.sets.proofs.Lowest.{lowest_in}
 use Rattle.meanings.specs.Quorums.{quorum, holds_quorum, minimal_quorum, blocking_set, minimal_blocking, greatest}
@@ -84,23 +83,23 @@ module _ (n : ℕ) (s : ℕ → ℕ → Bool) where
     one_spared Blocking v p e = fails (minimal_blocking n s c) (λ x. clash (blocking_set n s (c ∖ only v)) e (minimal-blocking x v p))
 
 -- ---- the test, node by node
-module _ (n : ℕ) (s : ℕ → ℕ → Bool) (k : Sought) (c : ℕ) (few : n ≤ 64) where
+module _ (n : ℕ) (s : ℕ → ℕ → Bool) (k : Sought) (c : ℕ) where
   pub left-all : c < 2 ^ n → Left n s k c c
   left-all h = record { below = h; inside = sub_within n c c h (λ i p. p); kept = λ v p q. clash (has c v) p q }
 
   module _ (left : ℕ) (w : Left n s k c left) where
-    left_lt : left < 2 ^ 64
-    left_lt = let m : 2 ^ n ≤ 2 ^ 64 = pow_mono few in let l = w.below in omega arith
-
     pub left-none : c < 2 ^ n → is_sought n s k c ≡ true → left ≡ nobody → is_minimal n s k c ≡ true
     left-none h e z = none-spared n s c h k e (λ v p. w.kept v p (ap (λ (x : ℕ). has x v) z ∙ has-nobody v))
 
-    module _ (v : ℕ) (z : ¬ (left ≡ nobody)) (e : v ≡ lowest 64 left) where
+    module _ (v : ℕ) (word : c < 2 ^ 64) (z : ¬ (left ≡ nobody)) (e : v ≡ lowest 64 left) where
+      left_lt : left < 2 ^ 64
+      left_lt = within-lt 64 left c word w.inside
+
       pub next_in : In left v
       next_in = subst (In left) (sym e) (lowest_in 64 left left_lt z)
 
-      pub next_lt : v < n
-      next_lt = has_below n left v w.below next_in
+      pub next_lt : v < 64
+      next_lt = has_below 64 left v left_lt next_in
 
       pub next_chosen : In c v
       next_chosen = within-sub left c w.inside v next_in

@@ -37,7 +37,7 @@ pub came : {x y : Step} (C : Step → Type 0) → x ≡ y → C y → C x
 came C e p = subst C (sym e) p
 
 -- ---- minimal quorums
-module _ (t plan : List ℕ) (a : Visit) (S : Branches.Stands t plan nobody a) (n64 : nodes t ≤ 64) where
+module _ (t : List ℕ) (a : Visit) (S : Branches.Stands t nobody a) where
   abbrev n : ℕ
   n = nodes t
 
@@ -61,13 +61,13 @@ module _ (t plan : List ℕ) (a : Visit) (S : Branches.Stands t plan nobody a) (
 
   module _ (due : ℕ) (w : Branches.Waiter t nobody a due) (on : ℕ) (eo : on ≡ a.g ∖ c) where
     on_is : on ≡ Q.choices n s nobody c r
-    on_is = eo ∙ ap (λ (x : ℕ). x ∖ c) (reached t plan nobody a S w.not-dry).1
+    on_is = eo ∙ ap (λ (x : ℕ). x ∖ c) (reached t nobody a S w.not-dry).1
 
     on_lt : on < 2 ^ n
     on_lt = subst (λ (x : ℕ). x < 2 ^ n) (sym on_is) (Q.choices_lt n s nobody c r)
 
-    pub quorums_split : Comes t Quorums a (chosen on due)
-    quorums_split = chosen-comes (Comes t Quorums a) on due none some
+    pub quorums_split : n ≤ 64 → Comes t Quorums a (chosen on due)
+    quorums_split n64 = chosen-comes (Comes t Quorums a) on due none some
       where
         none : on ≡ nobody → tree_at n s Quorums c r ≡ unsplit
         none y = Q.tree_unsplit n s nobody (λ u. false) at_minimal n c r refl w.not-dry w.no-quorum (sym on_is ∙ y)
@@ -89,7 +89,7 @@ module _ (t plan : List ℕ) (a : Visit) (S : Branches.Stands t plan nobody a) (
             }
 
 -- ---- blocking sets
-module _ (t : List ℕ) (a : Visit) (K : KnownBlocking t a) (hr : a.r < 2 ^ nodes t) (n64 : nodes t ≤ 64) where
+module _ (t : List ℕ) (a : Visit) (K : KnownBlocking t a) where
   abbrev m : ℕ
   m = nodes t
 
@@ -111,8 +111,8 @@ module _ (t : List ℕ) (a : Visit) (K : KnownBlocking t a) (hr : a.r < 2 ^ node
     pub at_blocking_lem : a.g ≡ nobody → tree_at m σ Blocking a.c a.r ≡ found_if (minimal_blocking m σ a.c) a.c
     at_blocking_lem z = B.tree_blocks m σ m a.c a.r e (none-blocks z)
 
-    pub blocking_split : ¬ (a.g ≡ nobody) → (due : ℕ) → Comes t Blocking a (chosen (a.r ∩ a.g) due)
-    blocking_split z due = chosen-comes (Comes t Blocking a) (a.r ∩ a.g) due none some
+    pub blocking_split : a.r < 2 ^ m → m ≤ 64 → ¬ (a.g ≡ nobody) → (due : ℕ) → Comes t Blocking a (chosen (a.r ∩ a.g) due)
+    blocking_split hr n64 z due = chosen-comes (Comes t Blocking a) (a.r ∩ a.g) due none some
       where
         on_is : a.r ∩ a.g ≡ B.choices m σ a.c a.r
         on_is = ap (λ (x : ℕ). a.r ∩ x) K.outside

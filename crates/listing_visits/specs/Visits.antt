@@ -1,22 +1,16 @@
 -- What a visit comes to, said of the tree that lies below it.
-use Rattle.std.specs.Prelude.{◌≡◌, Bool, true, false, cond, List, ℕ, suc, ◌<◌, ◌^◌}
+use Rattle.std.specs.Prelude.{◌≡◌, Bool, true, false, cond, List, ℕ, suc, ◌≤◌, ◌<◌, ◌^◌}
 use Rattle.meanings.specs.Of as of
 use Rattle.sets.specs.Sets.{has, nobody, everyone, only, ◌∪◌, ◌∩◌, ◌∖◌, empty, within, size, lowest}
 use Rattle.meanings.specs.Table.{nodes, satisfied}
 use Rattle.meanings.specs.Quorums.{quorum, holds_quorum, minimal_quorum, blocking_set, minimal_blocking}
 use Rattle.meanings.specs.Trees.{Tree, leaf, found, unsplit, fork, found_if, quorum_tree, blocking_from}
-use Rattle.plans.specs.Plans.{Planned}
 use Rattle.listing_visits.specs.declared.Sought.{Sought}
 use Rattle.listing_visits.specs.declared.Sought.TheVariants.{Quorums, Blocking}
 use Rattle.listing_visits.specs.declared.Step.{Step}
 use Rattle.listing_visits.specs.declared.Step.TheVariants.{Leaf, Listed, Stuck, Split}
 use Rattle.quorum_visits.specs.declared.Visit.{Visit}
 use Rattle.quorum_visits.specs.Visits as Branches
-
--- ---- what stays the same throughout a search: a plan of the table, and all its nodes
-pub record Ground (t plan : List ℕ) (all : ℕ) : Type 0 where
-  pub planned : Planned t plan
-  pub whole : all ≡ everyone (nodes t)
 
 module _ (n : ℕ) (s : ℕ → ℕ → Bool) where
   -- whether a set is of the kind that is sought, whether it is minimal among them, and whether it can spare a node
@@ -52,15 +46,15 @@ pub record KnownBlocking (t : List ℕ) (a : Visit) : Type 0 where
   pub due_in : within a.due (everyone (nodes t) ∖ (a.c ∪ a.r)) ≡ true
   pub due_all : (q : ℕ) → of.quorum t nobody q ≡ true → within q (everyone (nodes t) ∖ (a.c ∪ a.r)) ≡ true → within a.due q ≡ true
 
-abbrev pub Known : List ℕ → List ℕ → Sought → Visit → Type 0
-Known t plan Quorums a = Branches.Stands t plan nobody a
-Known t plan Blocking a = KnownBlocking t a
+abbrev pub Known : List ℕ → Sought → Visit → Type 0
+Known t Quorums a = Branches.Stands t nobody a
+Known t Blocking a = KnownBlocking t a
 
-pub record Stands (t plan : List ℕ) (all : ℕ) (sought : Sought) (a : Visit) : Type 0 where
-  pub footing : Ground t plan all
+pub record Stands (t : List ℕ) (sought : Sought) (a : Visit) : Type 0 where
+  pub small : nodes t ≤ 64
   pub chosen_in : a.c < 2 ^ nodes t
   pub open_in : a.r < 2 ^ nodes t
-  pub known : Known t plan sought a
+  pub known : Known t sought a
 
 -- ---- what a visit comes to
 
@@ -92,16 +86,15 @@ abbrev pub chosen : ℕ → ℕ → Step
 chosen on due = cond (empty on) Stuck (Split (lowest 64 on) due)
 
 -- ---- the visits below a split
-pub record Below (t plan : List ℕ) (all : ℕ) (sought : Sought) (a : Visit) (v c : ℕ) (b : Visit) : Type 0 where
-  pub stands : Stands t plan all sought b
+pub record Below (t : List ℕ) (sought : Sought) (a : Visit) (v c : ℕ) (b : Visit) : Type 0 where
+  pub stands : Stands t sought b
   pub chosen_are : b.c ≡ c
   pub open_are : b.r ≡ open_below sought a v
 
 -- ---- whether a set is minimal
 
 -- c is of the kind that is sought
-pub record Asked (t plan : List ℕ) (all : ℕ) (sought : Sought) (c : ℕ) : Type 0 where
-  pub footing : Ground t plan all
+pub record Asked (t : List ℕ) (sought : Sought) (c : ℕ) : Type 0 where
   pub below : c < 2 ^ nodes t
   pub is_one : is_sought (nodes t) (satisfied t) sought c ≡ true
 

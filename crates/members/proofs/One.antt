@@ -1,102 +1,56 @@
--- One id: what is written is read back with the comma that follows, and what is read is an id within its bounds, as it is written.
-use Prim.Native.Nat.{ℕ, ◌+◌, ◌≤◌, ◌<◌}
+-- One id: what is written is read back, where no digit follows, and what is read is an id within its bounds, as it is written.
+use Prim.Native.Nat.{ℕ, ◌≤◌}
 use native.Mathlib.Omega.{arith}
-use native.Mathlib.Numerals.{add-one}
 use native.Mathlib.Nat.{add-zero}
-use mathlib.Core.Path.{◌≡◌, refl, sym, ◌∙◌}
+use mathlib.Core.Path.{◌≡◌, refl}
 use mathlib.Core.Bool.{cond}
 use mathlib.Core.Logic.{⊎_elim}
-use mathlib.Core.List.{List, [], ◌∷◌, ◌++◌, append-nil}
-use borrow.Author.Tests.{lt-ltb, le-ltb, eq-eqb, ne_eqb}
-use lib.Dec.{eqb, ltb}
+use mathlib.Core.List.{List, ◌++◌}
+use borrow.Author.Tests.{lt-ltb, le-ltb}
+use lib.Dec.{ltb}
 use lib.ListN.{length, get_or, take}
-use lib.Seq.{get_or-append-add, take-suc}
-use Rattle.decimal.specs.Decimal.{numeral, digit_at, read_number, on_number}
-use Rattle.decimal.specs.declared.Number.{Number}
-use Rattle.decimal.specs.declared.Number.TheVariants.{Got, Bad}
-use Rattle.decimal.proofs.Order.{lt-or-le, same_or_not, inside}
-use Rattle.decimal.proofs.Round.{Reads, read_written, written_read}
-use Rattle.members.specs.declared.Id.{Id}
-use Rattle.members.specs.declared.Id.TheVariants.{More, Last, Bad as BadId}
+use lib.Seq.{get_or-append-add}
+use Rattle.std.proofs.Common.{Option, Some, None}
+use Rattle.decimal.specs.Decimal.{numeral, digit_at, read_number, on_read}
+use Rattle.decimal.proofs.Order.{lt-or-le}
+use Rattle.decimal.proofs.Round.{read_same, read_written, written_read}
 use Rattle.members.specs.Members.{read_id}
 
--- an id that is written and something that is no digit
-module _ (i : ℕ) (t : List ℕ) (least : ℕ) (low : least ≤ i) (high : i ≤ 63) (stop : digit_at t 0 ≡ 10) where
-  seam : get_or (numeral i ++ t) (length (numeral i)) 0 ≡ get_or t 0 0
-  seam = rw add-zero at (get_or-append-add (numeral i) t 0 0)
+-- what stands behind an id
+pub seam : (i : ℕ) (t : List ℕ) → get_or (numeral i ++ t) (length (numeral i)) 0 ≡ get_or t 0 0
+seam i t = rw add-zero at (get_or-append-add (numeral i) t 0 0)
 
-  pub read_more : get_or t 0 0 ≡ 44 → read_id (numeral i ++ t) least ≡ More i (length (numeral i) + 1)
-  unfolding read_id
-  read_more e =
-      let b : i ≤ 255 = omega arith in
-      rw (read_written i t b stop, seam) (simp (le-ltb i least low, le-ltb 63 i high, eq-eqb (get_or t 0 0) 44 e))
+pub read_back : (i : ℕ) (t : List ℕ) (least : ℕ) → least ≤ i → i ≤ 63 → digit_at t 0 ≡ None
+    → read_id (numeral i ++ t) least ≡ Some (i, length (numeral i))
+unfolding read_id
+read_back i t least low high stop =
+    let b : i ≤ 255 = omega arith in
+    rw (read_written i t b stop) (simp (le-ltb i least low, le-ltb 63 i high))
 
-  pub read_last_lem : (get_or t 0 0 ≡ 44 → ⊥) → read_id (numeral i ++ t) least ≡ Last i (length (numeral i))
-  unfolding read_id
-  read_last_lem n =
-      let b : i ≤ 255 = omega arith in
-      rw (read_written i t b stop, seam) (simp (le-ltb i least low, le-ltb 63 i high, ne_eqb (get_or t 0 0) 44 n))
-
--- the first k bytes of t are the id v and w
-pub record Took (t : List ℕ) (least v k : ℕ) (w : List ℕ) : Type 0 where
+-- the first k bytes of t are the id v
+pub record Took (t : List ℕ) (least v k : ℕ) : Type 0 where
   pub low : least ≤ v
   pub high : v ≤ 63
-  pub text : take k t ≡ numeral v ++ w
+  pub text : take k t ≡ numeral v
   pub within : k ≤ length t
   pub some : 1 ≤ k
 
--- what an answer says of the text
-Says : List ℕ → ℕ → Id → Type 0
-Says t least BadId = Unit
-Says t least (Last v k) = Took t least v k []
-Says t least (More v k) = Took t least v k (44 ∷ [])
-
-module _ (t : List ℕ) (least v k : ℕ) (r : Reads t v k) (low : least ≤ v) (high : v ≤ 63) where
-  last : Took t least v k []
-  last = record { low = low; high = high; text = r.text ∙ sym (append-nil (numeral v)); within = r.within; some = r.some }
-
-  more : get_or t k 0 ≡ 44 → Took t least v (k + 1) (44 ∷ [])
-  more e =
-      let h : k < length t = inside t k (omega arith) in
-      record {
-        low = low;
-        high = high;
-        text = rw (add-one k, take-suc t k 0 h, e, r.text);
-        within = omega arith;
-        some = omega arith;
-      }
-
-  by_byte : Says t least (cond (eqb (get_or t k 0) 44) (More v (k + 1)) (Last v k))
-  unfolding Says
-  by_byte =
-      ⊎_elim
-      (λ e. simp (eq-eqb (get_or t k 0) 44 e) (more e))
-      (λ n. simp (ne_eqb (get_or t k 0) 44 n) last)
-      (same_or_not (get_or t k 0) 44)
-
-by_number : (t : List ℕ) (least : ℕ) (x : Number) → read_number t ≡ x
-    → Says t least
-    (on_number x BadId (λ v k. cond (ltb v least) BadId (cond (ltb 63 v) BadId (cond (eqb (get_or t k 0) 44) (More v (k + 1)) (Last v k)))))
-unfolding Says
-by_number t least Bad e = tt
-by_number t least (Got v k) e =
+by_number : (t : List ℕ) (least v k : ℕ) (x : Option (ℕ × ℕ)) → read_number t ≡ x
+    → on_read {B = Option (ℕ × ℕ)} x None (λ w j. cond (ltb w least) None (cond (ltb 63 w) None (Some (w, j)))) ≡ Some (v, k) → Took t least v k
+by_number t least v k None r e = absurd (cc)
+by_number t least v k (Some (w, j)) r e =
     ⊎_elim
-    (λ a. simp (lt-ltb v least a) tt)
+    (λ a. let z : None ≡ Some (v, k) = simp (lt-ltb w least a) at e in absurd (cc))
     (λ a.
     ⊎_elim
-    (λ b. simp (le-ltb v least a, lt-ltb 63 v b) tt)
-    (λ b. simp (le-ltb v least a, le-ltb 63 v b) (by_byte t least v k (written_read t v k e) a b))
-    (lt-or-le 63 v))
-    (lt-or-le v least)
+    (λ b. let z : None ≡ Some (v, k) = simp (le-ltb w least a, lt-ltb 63 w b) at e in absurd (cc))
+    (λ b.
+    let p = read_same w v j k (simp (le-ltb w least a, le-ltb 63 w b) at e) in
+    let o = written_read t w j r in
+    rw (← p.0, ← p.1) (record { low = a; high = b; text = o.text; within = o.within; some = o.some }))
+    (lt-or-le 63 w))
+    (lt-or-le w least)
 
-says : (t : List ℕ) (least : ℕ) → Says t least (read_id t least)
+pub took : (t : List ℕ) (least v k : ℕ) → read_id t least ≡ Some (v, k) → Took t least v k
 unfolding read_id
-says t least = by_number t least (read_number t) refl
-
-pub took_more : (t : List ℕ) (least v k : ℕ) → read_id t least ≡ More v k → Took t least v k (44 ∷ [])
-unfolding Says
-took_more t least v k e = rw e at (says t least)
-
-pub took_last : (t : List ℕ) (least v k : ℕ) → read_id t least ≡ Last v k → Took t least v k []
-unfolding Says
-took_last t least v k e = rw e at (says t least)
+took t least v k e = by_number t least v k (read_number t) refl e

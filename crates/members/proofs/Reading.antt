@@ -1,19 +1,23 @@
 -- While ids are read, the whole reading is what was read so far joined with the reading of the rest; each id that is read goes over from the
 -- one to the other. The ids so far lie below the least that may follow, so that one more power of two fits the mask.
-use Prim.Native.Nat.{ℕ, zero, suc, ◌+◌, ◌-◌, ◌^◌, ◌≤◌, ◌<◌}
+use Prim.Native.Nat.{ℕ, suc, ◌+◌, ◌-◌, ◌^◌, ◌≤◌, ◌<◌}
 use native.Mathlib.Omega.{arith}
 use native.Mathlib.Nat.{pow-succ', zero-add, add_assoc}
 use native.Mathlib.Numerals.{add-one}
 use mathlib.Core.Path.{◌≡◌, refl, ap, sym, ◌∙◌}
+use mathlib.Core.Bool.{cond}
 use mathlib.Core.List.{List}
-use lib.ListN.{length, drop, length-drop}
+use borrow.Author.Tests.{eq-eqb, ne_eqb}
+use lib.Dec.{eqb}
+use lib.ListN.{length, get_or, take, drop, length-drop}
 use lib.Seq.{drop-drop}
+use Rattle.std.proofs.lemmas.List.{get_or-drop}
 use lib.Pow.{pow_mono}
-use Rattle.members.specs.declared.Id.TheVariants.{More, Last, Bad as BadId}
-use Rattle.members.specs.declared.Members.{Members}
-use Rattle.members.specs.declared.Members.TheVariants.{Got, Bad}
-use Rattle.members.specs.Members.{read_id, on_id, join, read_ids}
-use Rattle.members.proofs.One.{Took, took_more}
+use Rattle.std.proofs.Common.{Option, Some, None}
+use Rattle.decimal.specs.Decimal.{on_read}
+use Rattle.decimal.proofs.Order.{inside as within_text, rest}
+use Rattle.members.specs.Members.{read_id, join, read_ids}
+use Rattle.members.proofs.One.{Took, took}
 
 -- up to the place `at` the ids of `mask` were read, and at most `left` more may follow
 pub record Ready (s : List ℕ) (left least mask at : ℕ) : Type 0 where
@@ -22,65 +26,96 @@ pub record Ready (s : List ℕ) (left least mask at : ℕ) : Type 0 where
   pub below : mask < 2 ^ least
   pub whole : read_ids 64 s 0 ≡ join mask at (read_ids left (drop at s) least)
 
-join_nothing : (x : Members) → join 0 0 x ≡ x
+join_nothing : (x : Option (ℕ × ℕ)) → join 0 0 x ≡ x
 unfolding join
-join_nothing Bad = refl
-join_nothing (Got m u) = rw (zero-add m, zero-add u)
+join_nothing None = refl
+join_nothing (Some (m, u)) = rw (zero-add m, zero-add u)
 
-join-join : (m u m' u' : ℕ) (x : Members) → join m u (join m' u' x) ≡ join (m + m') (u + u') x
+join-join : (m u m' u' : ℕ) (x : Option (ℕ × ℕ)) → join m u (join m' u' x) ≡ join (m + m') (u + u') x
 unfolding join
-join-join m u m' u' Bad = refl
-join-join m u m' u' (Got m'' u'') = rw (add_assoc m m' m'', add_assoc u u' u'')
+join-join m u m' u' None = refl
+join-join m u m' u' (Some (m'', u'')) = rw (add_assoc m m' m'', add_assoc u u' u'')
 
 pub begin : (s : List ℕ) → Ready s 64 0 0 0
 begin s = record { inside = omega arith; ids = omega arith; below = omega arith; whole = sym (join_nothing (read_ids 64 s 0)) }
 
-turn : (left : ℕ) (t : List ℕ) (least : ℕ) → 0 < left
-    → read_ids left t least ≡ on_id (read_id t least) (λ v k. Got (2 ^ v) k) (λ v k. join (2 ^ v) k (read_ids (left - 1) (drop k t) (v + 1)))
+turn : (left more : ℕ) (t : List ℕ) (least : ℕ) → left ≡ suc more
+    → read_ids left t least
+    ≡ on_read {B = Option (ℕ × ℕ)} (read_id t least) None
+    (λ v k. cond (eqb (get_or t k 0) 44) (join (2 ^ v) (k + 1) (read_ids more (drop (k + 1) t) (v + 1))) (Some (2 ^ v, k)))
 unfolding read_ids
-turn zero t least h = absurd (omega arith)
-turn (suc f) t least h = let e : suc f - 1 ≡ f = omega arith in rw e
+turn left more t least h = rw h
 
 module _ (s : List ℕ) (left least mask at : ℕ) (r : Ready s left least mask at) where
   -- one more power of two
-  pub sum_below : (v : ℕ) → least ≤ v → mask + 2 ^ v < 2 ^ (v + 1)
+  sum_below : (v : ℕ) → least ≤ v → mask + 2 ^ v < 2 ^ (v + 1)
   sum_below v h = rw (add-one v, pow-succ' 2 v) (omega (arith, pow_mono h, r.below))
 
-  pub sum_fits : (v : ℕ) → least ≤ v → v ≤ 63 → mask + 2 ^ v < 2 ^ 64
-  sum_fits v h g =
-      let b : v + 1 ≤ 64 = omega arith in
-      let p : 2 ^ (v + 1) ≤ 2 ^ 64 = pow_mono b in
-      omega (arith, sum_below v h)
+  -- the id v is next, in k bytes, and at most `more` may follow
+  module _ (more v k : ℕ) (some : left ≡ suc more) (e : read_id (drop at s) least ≡ Some (v, k)) where
+    next_took : Took (drop at s) least v k
+    next_took = took (drop at s) least v k e
 
-  pub end_within : (v k : ℕ) (w : List ℕ) → Took (drop at s) least v k w → at + k ≤ length s
-  end_within v k w o = omega (arith, o.within, length-drop at s, r.inside)
+    sum_fits : mask + 2 ^ v < 2 ^ 64
+    sum_fits =
+        let b : v + 1 ≤ 64 = omega (arith, next_took.high) in
+        let p : 2 ^ (v + 1) ≤ 2 ^ 64 = pow_mono b in
+        omega (arith, sum_below v next_took.low)
 
-  pub ready_more : (v k : ℕ) → 0 < left → read_id (drop at s) least ≡ More v k → Ready s (left - 1) (v + 1) (mask + 2 ^ v) (at + k)
-  ready_more v k h e =
-      let o = took_more (drop at s) least v k e in
-      record {
-        inside = end_within v k _ o;
-        ids = omega (arith, o.high);
-        below = sum_below v o.low;
-        whole =
-            r.whole
-            ∙ ap (join mask at) (turn left (drop at s) least h ∙ rw e refl)
-            ∙ join-join mask at (2 ^ v) k (read_ids (left - 1) (drop k (drop at s)) (v + 1))
-            ∙ rw drop-drop;
-      }
+    ready_more : get_or s (at + k) 0 ≡ 44 → Ready s more (v + 1) (mask + 2 ^ v) (at + k + 1)
+    ready_more c =
+        let h : at + k < length s = within_text s (at + k) (omega arith) in
+        let a : at + (k + 1) ≡ at + k + 1 = omega arith in
+        let b : get_or (drop at s) k 0 ≡ 44 = rw (get_or-drop at s k 0) c in
+        let t : read_ids left (drop at s) least ≡ join (2 ^ v) (k + 1) (read_ids more (drop (k + 1) (drop at s)) (v + 1)) =
+        turn left more (drop at s) least some ∙ rw e (simp (eq-eqb (get_or (drop at s) k 0) 44 b)) in
+        record {
+          inside = omega arith;
+          ids = omega (arith, next_took.high);
+          below = sum_below v next_took.low;
+          whole =
+              r.whole
+              ∙ ap (join mask at) t
+              ∙ join-join mask at (2 ^ v) (k + 1) (read_ids more (drop (k + 1) (drop at s)) (v + 1))
+              ∙ rw (drop-drop, a);
+        }
 
-  pub ready_last : (v k : ℕ) → 0 < left → read_id (drop at s) least ≡ Last v k → read_ids 64 s 0 ≡ Got (mask + 2 ^ v) (at + k)
+    ready_last : (get_or s (at + k) 0 ≡ 44 → ⊥) → read_ids 64 s 0 ≡ Some (mask + 2 ^ v, at + k)
+    unfolding join
+    ready_last n =
+        let b : get_or (drop at s) k 0 ≡ 44 → ⊥ = λ c. n (rw (get_or-drop at s k 0) at c) in
+        let t : read_ids left (drop at s) least ≡ Some (2 ^ v, k) =
+        turn left more (drop at s) least some ∙ rw e (simp (ne_eqb (get_or (drop at s) k 0) 44 b)) in
+        r.whole ∙ ap (join mask at) t
+
+  pub ready_bad : (more : ℕ) → left ≡ suc more → read_id (drop at s) least ≡ None → read_ids 64 s 0 ≡ None
   unfolding join
-  ready_last v k h e =
-      let t : read_ids left (drop at s) least ≡ Got (2 ^ v) k = turn left (drop at s) least h ∙ rw e refl in
+  ready_bad more h e =
+      let t : read_ids left (drop at s) least ≡ None = turn left more (drop at s) least h ∙ rw e refl in
       r.whole ∙ ap (join mask at) t
 
-  pub ready_bad : 0 < left → read_id (drop at s) least ≡ BadId → read_ids 64 s 0 ≡ Bad
-  unfolding join
-  ready_bad h e =
-      let t : read_ids left (drop at s) least ≡ Bad = turn left (drop at s) least h ∙ rw e refl in
-      r.whole ∙ ap (join mask at) t
-
-  pub ready_out : left ≡ 0 → read_ids 64 s 0 ≡ Bad
+  pub ready_out : left ≡ 0 → read_ids 64 s 0 ≡ None
   unfolding join read_ids
   ready_out e = r.whole ∙ rw e
+
+-- what follows where the id v was read in k bytes: a comma makes ready for the rest, and any other byte ends the reading
+pub record Next (s : List ℕ) (more mask at v k : ℕ) : Type 0 where
+  pub id : v ≤ 63
+  pub sum : mask + 2 ^ v < 2 ^ 64
+  pub end : at + k ≤ length s
+  pub comma : get_or s (at + k) 0 ≡ 44 → Ready s more (v + 1) (mask + 2 ^ v) (at + k + 1)
+  pub last : (get_or s (at + k) 0 ≡ 44 → ⊥) → read_ids 64 s 0 ≡ Some (mask + 2 ^ v, at + k)
+
+pub next : (s : List ℕ) (i least mask at : ℕ) → Ready s (64 - i) least mask at → i < 64
+    → (v k : ℕ) → Some (v, k) ≡ read_id (take (length s - at) (drop at s)) least → Next s (64 - (i + 1)) mask at v k
+next s i least mask at r h v k q =
+    let e : read_id (drop at s) least ≡ Some (v, k) = rw (rest s at) at (sym q) in
+    let m : 64 - i ≡ suc (64 - (i + 1)) = omega arith in
+    let o = took (drop at s) least v k e in
+    record {
+      id = o.high;
+      sum = sum_fits s (64 - i) least mask at r (64 - (i + 1)) v k m e;
+      end = omega (arith, o.within, length-drop at s, r.inside);
+      comma = ready_more s (64 - i) least mask at r (64 - (i + 1)) v k m e;
+      last = ready_last s (64 - i) least mask at r (64 - (i + 1)) v k m e;
+    }

@@ -8,10 +8,11 @@ use mathlib.Core.Logic.{⊎_elim}
 use mathlib.Core.List.{List, [], ◌∷◌, ◌++◌, append_assoc}
 use borrow.Author.Tests.{eq-eqb, ne_eqb}
 use lib.ListN.{length, get_or, take}
+use Rattle.std.proofs.Common.{Some, None}
 use Rattle.decimal.specs.Decimal.{numeral, digit_at}
 use Rattle.decimal.proofs.Order.{same_or_not}
 use Rattle.decimal.proofs.Numeral.{numeral_first}
-use Rattle.members.specs.declared.Members.TheVariants.{Got}
+use Rattle.decimal.proofs.Round.{read_same}
 use Rattle.members.specs.Members.{nodes_from, with_commas, member_text, read_ids, read_members}
 use Rattle.members.proofs.Nodes.{mask_of, nodes-some, nodes_few, nodes_rise, mask_nodes, nodes_mask, mask_some}
 use Rattle.members.proofs.Written.{text_none, text_some}
@@ -27,7 +28,7 @@ no_hyphen (i ∷ j ∷ is) t h e =
     let f : get_or (numeral i ++ (44 ∷ (with_commas (j ∷ is) ++ t))) 0 0 ≡ 45 = rw append_assoc at e in
     omega (arith, numeral_first i (44 ∷ (with_commas (j ∷ is) ++ t)))
 
-hyphen : (t : List ℕ) → read_members (45 ∷ t) ≡ Got 0 1
+hyphen : (t : List ℕ) → read_members (45 ∷ t) ≡ Some (0, 1)
 unfolding read_members
 hyphen t = refl
 
@@ -36,17 +37,17 @@ unfolding read_members
 no-list s n = simp (ne_eqb (get_or s 0 0) 45 n)
 
 -- what is written is read back, where neither a digit nor a comma follows
-pub read_written : (m : ℕ) (t : List ℕ) → m < 2 ^ 64 → digit_at t 0 ≡ 10 → (get_or t 0 0 ≡ 44 → ⊥)
-    → read_members (member_text m ++ t) ≡ Got m (length (member_text m))
+pub read_written : (m : ℕ) (t : List ℕ) → m < 2 ^ 64 → digit_at t 0 ≡ None → (get_or t 0 0 ≡ 44 → ⊥)
+    → read_members (member_text m ++ t) ≡ Some (m, length (member_text m))
 read_written m t h no_digit no_comma =
     ⊎_elim
-    (λ e. rw (text_none m e) (hyphen t ∙ ap (λ (x : ℕ). Got x 1) (sym e)))
+    (λ e. rw (text_none m e) (hyphen t ∙ ap (λ (x : ℕ). Some (x, 1)) (sym e)))
     (λ n.
     let is = nodes_from 64 0 m in
     let some : 0 < length is = nodes-some 64 0 m (omega arith) h in
     let back = ids_back t no_digit no_comma 64 is 0 (nodes_rise 64 0 m (omega arith)) some (nodes_few 64 0 m) in
     let sum : mask_of is ≡ m = mask_nodes 64 0 m h ∙ one-mul m in
-    rw (text_some m n) (no-list (with_commas is ++ t) (no_hyphen is t some) ∙ back ∙ ap (λ (x : ℕ). Got x (length (with_commas is))) sum))
+    rw (text_some m n) (no-list (with_commas is ++ t) (no_hyphen is t some) ∙ back ∙ ap (λ (x : ℕ). Some (x, length (with_commas is))) sum))
     (same_or_not m 0)
 
 -- the first k bytes of s are the text of the set m
@@ -75,14 +76,12 @@ reads_ids s m k i =
     }
 
 -- what is read is what would be written
-pub written_read : (s : List ℕ) (m k : ℕ) → read_members s ≡ Got m k → Reads s m k
+pub written_read : (s : List ℕ) (m k : ℕ) → read_members s ≡ Some (m, k) → Reads s m k
 unfolding read_members
 written_read s m k e =
     ⊎_elim
     (λ h.
-    let g : Got 0 1 ≡ Got m k = simp (eq-eqb (get_or s 0 0) 45 h) at e in
-    let x : 0 ≡ m = cc in
-    let y : 1 ≡ k = cc in
-    rw (← x, ← y) (reads_hyphen s h))
+    let p = read_same 0 m 1 k (simp (eq-eqb (get_or s 0 0) 45 h) at e) in
+    rw (← p.0, ← p.1) (reads_hyphen s h))
     (λ n. reads_ids s m k (ids_forth 64 s 0 m k (simp (ne_eqb (get_or s 0 0) 45 n) at e)))
     (same_or_not (get_or s 0 0) 45)

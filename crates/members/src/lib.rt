@@ -7,23 +7,6 @@ ghost use Rattle.decimal.specs.Bytes.{Written};
 ghost use Rattle.members.specs.Members.{member_text, read_id, read_ids, read_members};
 ghost use Rattle.members.specs.Steps.{id_text};
 
-use decimal::Number;
-
-// One id and how many bytes it took: with a comma behind it, or the last.
-#[derive(Clone, Copy)]
-enum Id {
-    More(u64, usize),
-    Last(u64, usize),
-    Bad,
-}
-
-// A set and how many bytes its list took.
-#[derive(Clone, Copy)]
-pub enum Members {
-    Got(u64, usize),
-    Bad,
-}
-
 // The set of the node v alone.
 fn single(v: u64) -> u64
     requires { v < 64 }
@@ -32,58 +15,46 @@ fn single(v: u64) -> u64
     1 << v
 }
 
-// The id at the start of s, which must be at least `least`.
-fn read_id(s: &[u8], least: u64) -> Id
+// The id at the start of s, which must be at least `least`, and how many bytes it took.
+#[tactic(auto, unfolding(crate::specs::Members::read_id))]
+fn read_id(s: &[u8], least: u64) -> Option<(u64, usize)>
     ensures { result ≡ read_id s.now least }
 {
-    let Number::Got(v, k) = decimal::read_number(s) else {
-        return Id::Bad;
-    };
-    if v < least {
-        return Id::Bad;
+    let (v, k) = decimal::read_number(s)?;
+    if v < least || 63 < v {
+        return None;
     }
-    if 63 < v {
-        return Id::Bad;
-    }
-    if decimal::byte_at(s, k) == 44 {
-        return Id::More(v, k + 1);
-    }
-    Id::Last(v, k)
+    Some((v, k))
 }
 
 // Rising ids with commas at the start of s. As they rise, 64 turns are enough for all that can be.
-fn read_ids(s: &[u8]) -> Members
+fn read_ids(s: &[u8]) -> Option<(u64, usize)>
     ensures { result ≡ read_ids 64 s.now 0 }
 {
-    let mut left: u64 = 64;
     let mut least: u64 = 0;
     let mut mask: u64 = 0;
     let mut at: usize = 0;
-    while 0 < left {
-        match read_id(&s[at..], least) {
-            Id::More(v, k) => {
-                least = v + 1;
-                mask = mask + single(v);
-                at = at + k;
-            }
-            Id::Last(v, k) => {
-                return Members::Got(mask + single(v), at + k);
-            }
-            Id::Bad => {
-                return Members::Bad;
-            }
+    for _ in 0..64u64 {
+        let (v, k) = read_id(&s[at..], least)?;
+        least = v + 1;
+        mask = mask + single(v);
+        at = at + k;
+        if decimal::byte_at(s, at) != b',' {
+            return Some((mask, at));
         }
-        left = left - 1;
+        at = at + 1;
     }
-    Members::Bad
+    None
 }
 
-// The member list at the start of s. It ends before the first byte that cannot belong to it; the line's end is the caller's.
-pub fn read_members(s: &[u8]) -> Members
+// The member list at the start of s: the set, and how many bytes it took. It ends before the first byte that cannot belong to it; the line's end is
+// the caller's.
+#[tactic(auto, unfolding(crate::specs::Members::read_members))]
+pub fn read_members(s: &[u8]) -> Option<(u64, usize)>
     ensures { result ≡ read_members s.now }
 {
-    if decimal::byte_at(s, 0) == 45 {
-        return Members::Got(0, 1);
+    if decimal::byte_at(s, 0) == b'-' {
+        return Some((0, 1));
     }
     read_ids(s)
 }
@@ -102,20 +73,21 @@ fn id_len(i: u64, q: u64) -> usize
     k + 1
 }
 
-// How many bytes the list of m takes. What is left of the set is halved each turn, so the loop ends.
+// How many bytes the list of m takes, up to its highest node.
 pub fn members_len(m: u64) -> usize
     ensures { result ≡ length (member_text m) }
 {
     if m == 0 {
         return 1;
     }
-    let mut i: u64 = 0;
     let mut q = m;
     let mut n: usize = 0;
-    while 0 < q {
+    for i in 0..64 {
+        if q == 0 {
+            break;
+        }
         n = n + id_len(i, q);
         q = q / 2;
-        i = i + 1;
     }
     n
 }
@@ -132,26 +104,27 @@ fn put_id(out: &mut [u8], i: u64, q: u64) -> usize
     if q / 2 == 0 {
         return k;
     }
-    out[k] = 44;
+    out[k] = b',';
     k + 1
 }
 
-// Writes the list of m at the front of out, each node into what is left of it, and answers how many bytes that took.
+// Writes the list of m at the front of out, each node up to the highest into what is left of it, and answers how many bytes that took.
 pub fn put_members(out: &mut [u8], m: u64) -> usize
     requires { length (member_text m) ≤ length out.old }
     ensures { Written (member_text m) out.old out.new result }
 {
     if m == 0 {
-        out[0] = 45;
+        out[0] = b'-';
         return 1;
     }
-    let mut i: u64 = 0;
     let mut q = m;
     let mut at: usize = 0;
-    while 0 < q {
+    for i in 0..64 {
+        if q == 0 {
+            break;
+        }
         at = at + put_id(&mut out[at..], i, q);
         q = q / 2;
-        i = i + 1;
     }
     at
 }

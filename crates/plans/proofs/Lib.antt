@@ -1,3 +1,4 @@
+pub mod Written
 pub mod SameSets
 pub mod Naming
 pub mod Planning

@@ -1,28 +1,29 @@
 -- A quorum set names all whom judging it looks at: of the records up to its end, the members in a set and the inner sets that it
 -- satisfies are no fewer in one that has lost nobody named.
-use mathlib.Core.Path.{◌≡◌, sym, ap, ◌∙◌, subst}
+use mathlib.Core.Path.{◌≡◌, refl, sym, ap, ◌∙◌, subst}
 use mathlib.Core.Bool.{Bool, true}
 use mathlib.Core.Logic.{⊎_elim}
-use mathlib.Core.List.{List}
-use Prim.Native.Nat.{ℕ, zero, suc, ◌+◌, ◌-◌, ◌<◌, ◌≤◌}
+use mathlib.Core.List.{List, ◌++◌}
+use Prim.Native.Nat.{ℕ, zero, suc, ◌+◌, ◌-◌, ◌*◌, ◌<◌, ◌≤◌}
 use native.Mathlib.Numerals.{sub-one}
 use native.Mathlib.Omega.{arith}
 use borrow.Author.Tests.{eqb-true, eqb-false}
 use lib.Dec.{eqb}
-use lib.ListN.{length, set}
-use lib.Seq.{get_or-set_same, get_or-set_other}
-use Rattle.sets.specs.Sets.{size, ◌∪◌, ◌∩◌}
+use lib.ListN.{length, get_or, set, get_or-append, length-append}
+use lib.Seq.{get_or-append-add, get_or-set_same, get_or-set_other}
+use Rattle.sets.specs.Sets.{size, nobody, ◌∪◌, ◌∩◌}
 use Rattle.sets.proofs.Bools.{either}
-use Rattle.sets.proofs.Members.{In, Sub, ∪-left, ∪_right, ∩_in, ∩_out}
+use Rattle.sets.proofs.Members.{In, Sub, ∪-left, ∪_right, ∪_cases, ∩_in, ∩_out, none_in}
 use Rattle.sets.proofs.Size.{le-or-lt, sub-size}
 use Rattle.meanings.specs.Table.{records, members, level, head_of, satisfies}
 use Rattle.meanings.specs.Faults.{check, sound}
 use Rattle.tables.proofs.Runs.{inner_from, from_stop, from_hit, from_miss, from_deeper}
 use Rattle.satisfaction.proofs.Suffice.{suffice_more}
 use Rattle.satisfaction.proofs.Laws.{judged_last, judged_more}
-use Rattle.plans.specs.Alike.{set_ends}
+use Rattle.plans.specs.Alike.{set_end, set_of}
+use Rattle.plans.proofs.Written.{Over, Bounds, set_records, set_members}
 use Rattle.plans.proofs.SameSets.{from_last}
-use Rattle.plans.specs.Named.{Names, names_at, NamedTo}
+use Rattle.plans.specs.Named.{Names, Gathered, names_at, NamedTo}
 
 -- ---- walks with two tests
 module _ (t : List ℕ) (k : ℕ) where
@@ -66,32 +67,18 @@ module _ (t : List ℕ) (k : ℕ) where
 
 -- ---- the records of a set
 
--- m has the members of each record from r to before i
-abbrev pub Gathered : List ℕ → ℕ → ℕ → ℕ → Type 0
-Gathered t m r i = (j : ℕ) → r ≤ j → j < i → Sub (members t j) m
-
-pub first_gathered : (t : List ℕ) (m r : ℕ) → m ≡ members t r → Gathered t m r (r + 1)
-first_gathered t m r e j h l = let d : j ≡ r = omega arith in λ i p. subst (λ (x : ℕ). In x i) (ap (members t) d ∙ sym e) p
-
-pub one_more : (t : List ℕ) (m r i x : ℕ) → Gathered t m r i → x ≡ members t i → Gathered t (m ∪ x) r (i + 1)
-one_more t m r i x G e j h l =
-    ⊎_elim
-    (λ (q : i ≤ j). let d : j ≡ i = omega arith in λ k p. ∪_right m x k (subst (λ (y : ℕ). In y k) (ap (members t) d ∙ sym e) p))
-    (λ q k p. ∪-left m x k (G j h q k p))
-    (le-or-lt i j)
-
 -- the set of record r ends at e, and m has all its members
-pub record Whole (t : List ℕ) (m r e : ℕ) : Type 0 where
-  pub begins : r < e
-  pub fits : e ≤ records t
-  pub ends : set_ends t e ≡ true
-  pub gathered : Gathered t m r e
+record Whole (t : List ℕ) (m r e : ℕ) : Type 0 where
+  begins : r < e
+  fits : e ≤ records t
+  over : Over t e
+  gathered : (j : ℕ) → r ≤ j → j < e → Sub (members t j) m
 
 module _ (t : List ℕ) (m r e : ℕ) (W : Whole t m r e) where
   walk_more : (f g : ℕ → Bool) (k : ℕ) → ((j : ℕ) → r ≤ j → j < e → f j ≡ true → g j ≡ true) → (n i : ℕ) → n + i ≡ e → r ≤ i → inner_from f t k i ≤ inner_from g t k i
   walk_more f g k w zero i q h =
       let d : e ≡ i = omega arith in
-      let a = from_last f t k i (subst (λ (j : ℕ). set_ends t j ≡ true) d W.ends) in
+      let a = from_last f t k i (subst (Over t) d W.over) in
       omega arith
   walk_more f g k w (suc n) i q h = more (walk_more f g k w n (i + 1) (omega arith) (omega arith))
     where
@@ -124,8 +111,70 @@ module _ (t : List ℕ) (m r e : ℕ) (W : Whole t m r e) where
             (omega arith)
             (sym (judged_more (suc left) t u j sd (omega arith) (omega arith)) ∙ p)
 
-  pub whole_names : check t ≡ sound → Names t m r
+  whole_names : check t ≡ sound → Names t m r
   whole_names sd u u' kept = let b = W.begins in stays sd u u' kept 3 r (omega arith) b
+
+-- what gathers the members of the records that are written of it names all
+pub set_names : (t : List ℕ) (v m : ℕ) → Bounds t v → Gathered (set_of t v) m → check t ≡ sound → Names t m (head_of t v)
+set_names t v m b g sd =
+    let n = set_records t v b in
+    whole_names t m (head_of t v) (set_end t v)
+    (record {
+      begins = b.begins;
+      fits = b.fits;
+      over = b.over;
+      gathered = λ j h l i p.
+          let k : j - head_of t v < records (set_of t v) = omega arith in
+          let d : head_of t v + (j - head_of t v) ≡ j = omega arith in
+          g (j - head_of t v) k i (subst (λ (x : ℕ). In x i) (sym (set_members t v b (j - head_of t v) k ∙ ap (members t) d)) p);
+    })
+    sd
+
+-- ---- gathering, a record at a time
+
+-- whatever gathers the rest makes up for what m has not gathered of s yet
+abbrev pub Gathering : List ℕ → ℕ → List ℕ → Type 0
+Gathering s m rest = (k : ℕ) → Gathered rest k → Gathered s (m ∪ k)
+
+-- of no record nothing is to be gathered
+none_left : (s : List ℕ) (m : ℕ) → length s < 2 → Gathered s m
+unfolding records
+none_left s m h r l i p = absurd (omega arith)
+
+pub all_gathered : (s rest : List ℕ) (m : ℕ) → length rest < 2 → Gathering s m rest → Gathered s m
+all_gathered s rest m h G r l i p =
+    ⊎_elim (λ q. q) (λ q. none_in nobody i refl q) (∪_cases m nobody i (G nobody (none_left rest nobody h) r l i p))
+
+-- the members of the first record, and those of the others
+module _ (x rest : List ℕ) (two : length x ≡ 2) where
+  first_members : members (x ++ rest) 0 ≡ get_or x 1 0
+  unfolding members
+  first_members = get_or-append x rest 0 1 (omega arith)
+
+  later_members : (r : ℕ) → members (x ++ rest) (suc r) ≡ members rest r
+  unfolding members
+  later_members r =
+      let d : suc (2 * suc r) ≡ length x + suc (2 * r) = omega arith in
+      ap (λ (k : ℕ). get_or (x ++ rest) k 0) d ∙ get_or-append-add x rest (suc (2 * r)) 0
+
+  one_gathered : (k : ℕ) → Gathered rest k → Gathered (x ++ rest) (get_or x 1 0 ∪ k)
+  unfolding records
+  one_gathered k g zero l i p = ∪-left (get_or x 1 0) k i (subst (λ (y : ℕ). In y i) first_members p)
+  one_gathered k g (suc r) l i p =
+      let n = length-append x rest in
+      ∪_right (get_or x 1 0) k i (g r (omega arith) i (subst (λ (y : ℕ). In y i) (later_members r) p))
+
+joined : (a b c i : ℕ) → In (a ∪ (b ∪ c)) i → In ((a ∪ b) ∪ c) i
+joined a b c i p =
+    ⊎_elim
+    (λ x. ∪-left (a ∪ b) c i (∪-left a b i x))
+    (λ y. ⊎_elim (λ x. ∪-left (a ∪ b) c i (∪_right a b i x)) (λ x. ∪_right (a ∪ b) c i x) (∪_cases b c i y))
+    (∪_cases a (b ∪ c) i p)
+
+pub more_gathered : (s rest x rest' : List ℕ) (m : ℕ) → length x ≡ 2 → rest ≡ x ++ rest' → Gathering s m rest → Gathering s (m ∪ get_or x 1 0) rest'
+more_gathered s rest x rest' m two e G k g r l i p =
+    joined m (get_or x 1 0) k i
+    (G (get_or x 1 0 ∪ k) (subst (λ (y : List ℕ). Gathered y (get_or x 1 0 ∪ k)) (sym e) (one_gathered x rest' two k g)) r l i p)
 
 -- ---- the names of one node more are written
 pub one_named : (t names : List ℕ) (n x : ℕ) → n < length names → NamedTo t names n → Names t x (head_of t n) → NamedTo t (set names n x) (n + 1)

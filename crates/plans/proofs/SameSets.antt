@@ -1,58 +1,48 @@
--- Two level 0 records whose sets are written the same are alike: judging a record reads only the run of deeper records after it,
+-- Two nodes of whose quorum sets the same is written are alike: judging a record reads only the run of deeper records after it,
 -- and a walk over one run goes in step with a walk over the other, up to the end of both sets, where both walks stop.
 use mathlib.Core.Path.{◌≡◌, sym, ap, ap₂, ◌∙◌, subst}
-use mathlib.Core.Bool.{Bool, true, false}
-use mathlib.Core.Logic.{⊎_elim}
+use mathlib.Core.Bool.{Bool, true}
+use mathlib.Core.Logic.{inl, inr, ⊎_elim}
 use mathlib.Core.List.{List}
 use Prim.Native.Nat.{ℕ, zero, suc, ◌+◌, ◌-◌, ◌/◌, ◌%◌, ◌<◌, ◌≤◌}
 use native.Mathlib.Nat.{add-zero}
 use native.Mathlib.Numerals.{sub-one}
 use native.Mathlib.Omega.{arith}
-use borrow.Author.Tests.{eqb-true, eqb-false, leb-true, leb-false}
-use lib.Dec.{leb, eqb}
+use borrow.Author.Tests.{eqb-true, eqb-false}
+use lib.Dec.{eqb}
 use Rattle.sets.specs.Sets.{size, ◌∩◌}
-use Rattle.sets.proofs.Bools.{either, and_parts, or_cases, or_fails}
+use Rattle.sets.proofs.Bools.{either}
 use Rattle.sets.proofs.Size.{le-or-lt}
-use Rattle.meanings.specs.Table.{records, control, members, threshold, level, suffice, satisfies}
+use Rattle.meanings.specs.Table.{records, control, members, threshold, level, head_of, suffice, satisfies}
 use Rattle.meanings.specs.Faults.{check, sound}
 use Rattle.tables.proofs.Runs.{inner_from, from_end, from_stop, from_hit, from_miss, from_deeper}
 use Rattle.satisfaction.proofs.Suffice.{same_suffice}
 use Rattle.satisfaction.proofs.Laws.{judged_last, judged_more}
-use Rattle.plans.specs.Alike.{Alike, same_record, set_ends}
+use Rattle.plans.specs.Alike.{Alike, set_end, set_of}
+use Rattle.plans.proofs.Written.{Over, Bounds, set_records, set_control, set_members}
 
 -- ---- records written the same
-module _ (t : List ℕ) (a b : ℕ) (s : same_record t a b ≡ true) where
-  words : (control t a ≡ control t b) × (members t a ≡ members t b)
-  unfolding same_record
-  words =
-      let p = and_parts (eqb (control t a) (control t b)) (eqb (members t a) (members t b)) s in
-      (eqb-true (control t a) (control t b) p.0, eqb-true (members t a) (members t b) p.1)
+abbrev Same : List ℕ → ℕ → ℕ → Type 0
+Same t a b = (control t a ≡ control t b) × (members t a ≡ members t b)
 
+module _ (t : List ℕ) (a b : ℕ) (s : Same t a b) where
   same_level : level t a ≡ level t b
   unfolding level
-  same_level = ap (λ (x : ℕ). x / 256) words.0
+  same_level = ap (λ (x : ℕ). x / 256) s.0
 
   same_threshold : threshold t a ≡ threshold t b
   unfolding threshold
-  same_threshold = ap (λ (x : ℕ). x % 256) words.0
+  same_threshold = ap (λ (x : ℕ). x % 256) s.0
 
   same_met : (u : ℕ) → size 64 (members t a ∩ u) ≡ size 64 (members t b ∩ u)
-  same_met u = ap (λ (m : ℕ). size 64 (m ∩ u)) words.1
-
--- a set that is not at its end has a record
-pub not-ended : (t : List ℕ) (r : ℕ) → set_ends t r ≡ false → r < records t
-unfolding set_ends
-not-ended t r e = leb-false (records t) r (or_fails (leb (records t) r) (eqb (level t r) 0) e).0
+  same_met u = ap (λ (m : ℕ). size 64 (m ∩ u)) s.1
 
 -- ---- walks in step
 module _ (f : ℕ → Bool) (t : List ℕ) (k : ℕ) where
   -- no walk goes past the end of a set
-  pub from_last : (r : ℕ) → set_ends t r ≡ true → inner_from f t k r ≡ 0
-  unfolding set_ends
-  from_last r e =
-      ⊎_elim (λ p. from_end f t k r (leb-true (records t) r p))
-      (λ p. let z = eqb-true (level t r) 0 p in from_stop f t k r (omega arith))
-      (or_cases (leb (records t) r) (eqb (level t r) 0) e)
+  pub from_last : (r : ℕ) → Over t r → inner_from f t k r ≡ 0
+  from_last r (inl h) = from_end f t k r h
+  from_last r (inr e) = from_stop f t k r (omega arith)
 
   -- two walks at records written the same go on in step
   module _ (x y : ℕ) (l : x < records t) (l' : y < records t) (v : level t x ≡ level t y) (q : f x ≡ f y) (ih : inner_from f t k (x + 1) ≡ inner_from f t k (y + 1)) where
@@ -78,19 +68,19 @@ module _ (f : ℕ → Bool) (t : List ℕ) (k : ℕ) where
 -- ---- sets written the same
 
 -- m records from a on and from b on are written the same, and both sets end after them
-pub record SameRun (t : List ℕ) (a b m : ℕ) : Type 0 where
-  pub same : (i : ℕ) → i < m → same_record t (a + i) (b + i) ≡ true
-  pub fits : a + m ≤ records t
-  pub fits' : b + m ≤ records t
-  pub ends : set_ends t (a + m) ≡ true
-  pub ends' : set_ends t (b + m) ≡ true
+record SameRun (t : List ℕ) (a b m : ℕ) : Type 0 where
+  same : (i : ℕ) → i < m → Same t (a + i) (b + i)
+  fits : a + m ≤ records t
+  fits' : b + m ≤ records t
+  ends : Over t (a + m)
+  ends' : Over t (b + m)
 
 module _ (t : List ℕ) (a b m : ℕ) (s : SameRun t a b m) where
   walks : (f : ℕ → Bool) (k : ℕ) → ((i : ℕ) → i < m → f (a + i) ≡ f (b + i)) → (n i : ℕ) → n + i ≡ m → inner_from f t k (a + i) ≡ inner_from f t k (b + i)
   walks f k g zero i e =
       let d : m ≡ i = omega arith in
-      from_last f t k (a + i) (subst (λ (j : ℕ). set_ends t (a + j) ≡ true) d s.ends)
-      ∙ sym (from_last f t k (b + i) (subst (λ (j : ℕ). set_ends t (b + j) ≡ true) d s.ends'))
+      from_last f t k (a + i) (subst (λ (j : ℕ). Over t (a + j)) d s.ends)
+      ∙ sym (from_last f t k (b + i) (subst (λ (j : ℕ). Over t (b + j)) d s.ends'))
   walks f k g (suc n) i e = more (walks f k g n (suc i) (omega arith))
     where
       more : inner_from f t k (a + suc i) ≡ inner_from f t k (b + suc i) → inner_from f t k (a + i) ≡ inner_from f t k (b + i)
@@ -112,7 +102,7 @@ module _ (t : List ℕ) (a b m : ℕ) (s : SameRun t a b m) where
         same_suffice t sd (a + i) (b + i) (omega arith) (omega arith) (same_threshold t (a + i) (b + i) (s.same i l))
 
     -- whoever satisfies a record of one run satisfies the one at its place in the other
-    pub run_alike : (left i : ℕ) → i < m → satisfies left t u (a + i) ≡ satisfies left t u (b + i)
+    run_alike : (left i : ℕ) → i < m → satisfies left t u (a + i) ≡ satisfies left t u (b + i)
     run_alike zero i l =
         let r = s.same i l in
         judged_last t u (a + i)
@@ -139,5 +129,29 @@ module _ (t : List ℕ) (a b m : ℕ) (s : SameRun t a b m) where
             ∙ ap (suffice t (b + i)) (ap₂ ◌+◌ (same_met t (a + i) (b + i) r u) inner)
             ∙ sym (judged_more (suc left) t u (b + i) sd (omega arith) (omega arith))
 
-  pub same_alike : check t ≡ sound → 0 < m → Alike t a b
+  same_alike : check t ≡ sound → 0 < m → Alike t a b
   same_alike sd h w = rw (add-zero a, add-zero b) at (run_alike sd w 3 0 h)
+
+-- nodes of whose quorum sets the same is written are alike
+module _ (t : List ℕ) (i v : ℕ) (bi : Bounds t i) (bv : Bounds t v) (e : set_of t i ≡ set_of t v) where
+  one_run : SameRun t (head_of t i) (head_of t v) (records (set_of t v))
+  one_run =
+      let n = ap records e in
+      let ri : head_of t i + records (set_of t v) ≡ set_end t i = rw n at (set_records t i bi) in
+      let rv = set_records t v bv in
+      let fi = bi.fits in
+      let fv = bv.fits in
+      record {
+        same = λ r l.
+            let l' : r < records (set_of t i) = omega arith in (
+              sym (set_control t i bi r l') ∙ ap (λ (s : List ℕ). control s r) e ∙ set_control t v bv r l,
+              sym (set_members t i bi r l') ∙ ap (λ (s : List ℕ). members s r) e ∙ set_members t v bv r l,
+            );
+        fits = omega arith;
+        fits' = omega arith;
+        ends = subst (Over t) (sym ri) bi.over;
+        ends' = subst (Over t) (sym rv) bv.over;
+      }
+
+  pub same_sets : check t ≡ sound → Alike t (head_of t i) (head_of t v)
+  same_sets sd = let r = set_records t v bv in let b = bv.begins in same_alike t (head_of t i) (head_of t v) (records (set_of t v)) one_run sd (omega arith)

@@ -1,19 +1,19 @@
--- Quorum sets that are alike, and how two of them are compared.
-use Rattle.std.specs.Prelude.{◌≡◌, Bool, true, ◌&&◌, ◌||◌, List, ℕ, leb, eqb}
+-- Quorum sets that are alike, and what is written of them.
+use Rattle.std.specs.Prelude.{◌≡◌, true, List, ℕ, suc, ◌-◌, ◌*◌, get_or, take, drop}
 use Rattle.sets.specs.Sets.{has}
-use Rattle.meanings.specs.Table.{records, control, members, level, head_of, satisfies}
+use Rattle.meanings.specs.Table.{records, heads, head_of, satisfies}
 
 -- Records are alike where whoever satisfies one satisfies the other.
 abbrev pub Alike : List ℕ → ℕ → ℕ → Type 0
 Alike t a b = (w : ℕ) → satisfies 3 t w a ≡ satisfies 3 t w b
 
--- whether two records are written the same
-unfoldable pub same_record : List ℕ → ℕ → ℕ → Bool
-same_record t a b = eqb (control t a) (control t b) && eqb (members t a) (members t b)
+-- where the quorum set of node v ends: at the record that opens the next node, or with the table
+unfoldable pub set_end : List ℕ → ℕ → ℕ
+set_end t v = get_or (heads t) (suc v) (records t)
 
--- whether the quorum set of the node before is at its end: there is no record, or one that opens the next node
-unfoldable pub set_ends : List ℕ → ℕ → Bool
-set_ends t r = leb (records t) r || eqb (level t r) 0
+-- the words of its records
+unfoldable pub set_of : List ℕ → ℕ → List ℕ
+set_of t v = take (2 * set_end t v - 2 * head_of t v) (drop (2 * head_of t v) t)
 
 -- m has node v, and none whose quorum set is not like that of v.
 pub record LikeNode (t : List ℕ) (v m : ℕ) : Type 0 where

@@ -1,130 +1,157 @@
 // A plan for the searches, found once for a question: for each node what is judged for it, who is alike, and who can lose something when it is struck.
 #![tactic(auto)]
 
-ghost use Rattle.std.specs.Prelude.{◌≡◌, true, suc, ◌<◌, ◌≤◌, length};
-ghost use Rattle.meanings.specs.Table.{records, nodes as nodes_of};
+ghost use Rattle.std.specs.Prelude.{◌≡◌, List, ℕ, ◌<◌, ◌≤◌};
+ghost use Rattle.meanings.specs.Table.{records, nodes as nodes_of, head_of};
 ghost use Rattle.meanings.specs.Faults.{check, sound};
-ghost use Rattle.tables.specs.Heads.{Headed};
-ghost use Rattle.plans.specs.Plans.{Planned, PlannedTo};
-ghost use Rattle.plans.specs.Alike.{Alike, LikeNode, same_record, set_ends};
-ghost use Rattle.plans.specs.Named.{NamedTo, Names, Planning, TouchedTo};
+ghost use Rattle.tables.specs.Heads.{Reads};
+ghost use Rattle.plans.specs.Plans.{PlannedTo, IsPlanOf};
+ghost use Rattle.plans.specs.Alike.{LikeNode, set_end, set_of};
+ghost use Rattle.plans.specs.Named.{NamedTo, Gathered, TouchedTo};
 
-// Whether two records are written the same.
-fn same_record(t: &[u64], a: usize, b: usize) -> bool
-    requires { (a < records t.now) × (b < records t.now) }
-    ensures { result ≡ same_record t.now a b }
-{
-    tables::control(t, a) == tables::control(t, b) && tables::members(t, a) == tables::members(t, b)
+use std::marker::Model;
+use tables::{Headed, Table};
+
+// What is found for a node: the record that is judged for it, the nodes alike, itself among them, and the nodes that can lose something when
+// nodes alike are struck.
+#[derive(Clone, Copy)]
+pub struct Node {
+    pub head: usize,
+    pub like: u64,
+    pub touched: u64,
 }
 
-// Whether a quorum set that has come to record r is at its end: no record is left, or this one opens the next node.
-fn set_ends(t: &[u64], r: usize) -> bool
-    ensures { result ≡ set_ends t.now r }
-{
-    t.len() / 2 <= r || tables::level(t, r) == 0
+// A sound table with its plan, seen as the table's words: whatever the plan holds, the same is answered.
+#[derive(Drop)]
+pub struct Plan<'a> {
+    table: &'a Table<'a>,
+    nodes: [Node; 64],
 }
 
-// Whether the quorum sets of two records are written the same, record by record, up to the end of both.
-fn same_set(t: &[u64], a: usize, b: usize) -> bool
-    requires { (check t.now ≡ sound) × (a < records t.now) × (b < records t.now) }
-    ensures { result ≡ true → Alike t.now a b }
+impl<'a> Model for Plan<'a> {
+    ghost Value = { List ℕ };
+
+    ghost view = { λ p. p.table.now };
+
+    ghost invariant = { λ p. (check p.table.now ≡ sound) × PlannedTo p.table.now p.nodes (nodes_of p.table.now) };
+}
+
+// Where the quorum set of node v ends: at the record that opens the next node, or with the table.
+fn set_end(heads: &Headed, v: u64) -> usize
+    requires { v < nodes_of heads.now }
+    ensures { (result ≡ set_end heads.now v) × (head_of heads.now v < result) × (result ≤ records heads.now) }
 {
-    let mut i = 0;
-    while same_record(t, a + i, b + i) {
-        i += 1;
-        if set_ends(t, a + i) {
-            return set_ends(t, b + i);
-        }
-        if set_ends(t, b + i) {
-            return false;
-        }
+    let t = heads.table();
+    if v + 1 < t.nodes() {
+        heads.head(v + 1)
+    } else {
+        t.records()
     }
-    false
+}
+
+// The words of its records.
+fn set_of<'a>(heads: &'a Headed, v: u64) -> &'a [u64]
+    requires { v < nodes_of heads.now }
+    ensures { Reads heads.now (result.now ≡ set_of heads.now v) }
+{
+    let start = 2 * heads.head(v);
+    let end = 2 * set_end(heads, v);
+    &heads.table().words()[start..end]
 }
 
 // Node v, and all whose quorum sets are written the same as its own.
-fn alike(t: &[u64], heads: &[u64], nodes: u64, v: u64) -> u64
-    requires { Headed t.now heads.now × (nodes ≡ nodes_of t.now) × (v < nodes) }
-    ensures { LikeNode t.now v result }
+fn alike(heads: &Headed, v: u64) -> u64
+    requires { v < nodes_of heads.now }
+    ensures { LikeNode heads.now v result }
 {
-    let r = heads[v as usize] as usize;
+    let set = set_of(heads, v);
     let mut like = sets::one(v);
-    let mut i = 0u64;
-    while i < nodes {
-        if same_set(t, heads[i as usize] as usize, r) {
-            like = like | sets::one(i);
+    for i in 0..heads.table().nodes() {
+        if set_of(heads, i) == set {
+            like |= sets::one(i);
         }
-        i += 1;
     }
     like
 }
 
-// The nodes that a quorum set names: the members of its record and of the records after it, up to its end. Judging it looks at no others.
-fn named(t: &[u64], r: usize) -> u64
-    requires { (check t.now ≡ sound) × (r < records t.now) }
-    ensures { Names t.now result r }
+// The nodes that a quorum set names: the members of its records. Judging it looks at no others.
+fn named(set: &[u64]) -> u64
+    ensures { Gathered set.now result }
 {
-    let mut all = tables::members(t, r);
-    let mut i = r + 1;
-    while !set_ends(t, i) {
-        all = all | tables::members(t, i);
-        i += 1;
+    let mut all = 0;
+    for record in set.chunks_exact(2) {
+        all |= record[1];
     }
     all
 }
 
-// What each node's quorum set names.
-fn name_nodes(t: &[u64], heads: &[u64], nodes: u64, names: &mut [u64])
-    requires { Headed t.now heads.now × (nodes ≡ nodes_of t.now) × (nodes ≤ length names.old) }
-    ensures { NamedTo t.now names.new nodes × (length names.new ≡ length names.old) }
+// What each node's quorum set names, at the node's number.
+fn name_nodes(heads: &Headed) -> [u64; 64]
+    ensures { NamedTo heads.now result (nodes_of heads.now) }
 {
-    let mut v = 0u64;
-    while v < nodes {
-        names[v as usize] = named(t, heads[v as usize] as usize);
-        v += 1;
+    let mut names = [0; 64];
+    for v in 0..heads.table().nodes() {
+        names[v as usize] = named(set_of(heads, v));
     }
+    names
 }
 
 // The nodes that name any of `like`: whoever is not one of them loses nothing when those of `like` are struck.
-fn touched(names: &[u64], nodes: u64, like: u64) -> u64
-    requires { (nodes ≤ length names.now) × (nodes ≤ 64) }
+fn touched(names: &[u64; 64], nodes: u64, like: u64) -> u64
+    requires { nodes ≤ 64 }
     ensures { TouchedTo names.now like result nodes }
 {
-    let mut all = 0u64;
-    let mut i = 0u64;
-    while i < nodes {
+    let mut all = 0;
+    for i in 0..nodes {
         if names[i as usize] & like != 0 {
-            all = all | sets::one(i);
+            all |= sets::one(i);
         }
-        i += 1;
     }
     all
 }
 
-// Plans node v: its record, the nodes alike, and those touched by them.
-fn plan_node(t: &[u64], heads: &[u64], nodes: u64, names: &[u64], plan: &mut [u64], v: u64)
-    requires { Planning t.now heads.now nodes names.now plan.old v }
-    ensures { PlannedTo t.now plan.new (suc v) × (length plan.new ≡ length plan.old) }
+// What is found for node v.
+fn plan_node(heads: &Headed, names: &[u64; 64], v: u64) -> Node
+    requires { (v < nodes_of heads.now) × NamedTo heads.now names.now (nodes_of heads.now) }
+    ensures { IsPlanOf heads.now v result }
 {
-    let like = alike(t, heads, nodes, v);
-    let i = 3 * v as usize;
-    plan[i] = heads[v as usize];
-    plan[i + 1] = like;
-    plan[i + 2] = touched(names, nodes, like);
+    let like = alike(heads, v);
+    Node {
+        head: heads.head(v),
+        like,
+        touched: touched(names, heads.table().nodes(), like),
+    }
 }
 
-// The plan of a sound table's nodes, three words a node.
-pub fn plan(t: &[u64], plan: &mut [u64])
-    requires { (check t.now ≡ sound) × (192 ≤ length plan.old) }
-    ensures { Planned t.now plan.new × (length plan.new ≡ length plan.old) }
-{
-    let mut heads = [0u64; 64];
-    let nodes = tables::find_heads(t, &mut heads);
-    let mut names = [0u64; 64];
-    name_nodes(t, &heads, nodes, &mut names);
-    let mut v = 0u64;
-    while v < nodes {
-        plan_node(t, &heads, nodes, &names, plan, v);
-        v += 1;
+impl<'a> Plan<'a> {
+    pub fn new(table: &'a Table<'a>) -> Plan<'a>
+        ensures { result ≡ table.now }
+    {
+        let heads = Headed::new(table);
+        let names = name_nodes(&heads);
+        let nobody = Node {
+            head: 0,
+            like: 0,
+            touched: 0,
+        };
+        let mut nodes = [nobody; 64];
+        for v in 0..table.nodes() {
+            nodes[v as usize] = plan_node(&heads, &names, v);
+        }
+        Plan { table, nodes }
+    }
+
+    pub fn table(&self) -> &Table<'_>
+        ensures { Reads self.now (result.now ≡ self.now) }
+    {
+        self.table
+    }
+
+    pub fn node(&self, v: u64) -> Node
+        requires { v < nodes_of self.now }
+        ensures { Reads self.now (IsPlanOf self.now v result) }
+    {
+        let nodes = &self.nodes;
+        nodes[v as usize]
     }
 }

@@ -1,10 +1,9 @@
 -- No contract can say which bytes the system writes. What is promised is where in the report each part that is handed over stands, and how
 -- many bytes of the report have been handed over behind it.
-use Rattle.std.specs.Prelude.{ℕ, ◌+◌, ◌≤◌, ◌≡◌, List, ◌++◌, length, take, Result, Ok, Err}
+use Rattle.std.specs.Prelude.{ℕ, ◌+◌, ◌≤◌, ◌≡◌, List, ◌++◌, length, take, Result, Ok, Err, IsErr}
 use Rattle.std.specs.declared.io.Error.{Error}
-use Rattle.answers.specs.Said.{read_says}
-use Rattle.answers.specs.declared.Read.{Read}
-use Rattle.answers.specs.declared.Read.TheVariants as Rx
+use Rattle.answers.specs.Said.{refusal_says}
+use Rattle.answers.specs.declared.Refusal.{Refusal}
 use Rattle.report_lines.specs.Lines.{refused_line}
 use Rattle.report.specs.Report.{report_on}
 
@@ -26,14 +25,12 @@ unfoldable pub All : (text : List ℕ) → Result ℕ Error → Type 0
 All text (Ok to) = to ≡ length text
 All text (Err error) = Unit {0}
 
--- what is counted of so many bytes: all, if they were taken
-unfoldable pub counted_is : {T : Type 0} (taken : Result T Error) (bytes : ℕ) → Result ℕ Error
-counted_is (Ok done) bytes = Ok bytes
-counted_is (Err error) bytes = Err error
+-- of so many bytes all are counted if they were taken, and none if not
+unfoldable pub Counts : {T : Type 0} (taken : Result T Error) (bytes : ℕ) → Result ℕ Error → Type 0
+Counts (Ok done) bytes counted = counted ≡ Ok bytes
+Counts (Err error) bytes counted = IsErr counted
 
 -- The report on what a sheet was read to: the words of a good one at the front of a list, or the answer that refuses it.
-unfoldable pub report_from : Read → (words : List ℕ) → List ℕ
-report_from (Rx.Words count) words = report_on (take count words)
-report_from (Rx.Short count) words = refused_line (read_says (Rx.Short count))
-report_from (Rx.Malformed line) words = refused_line (read_says (Rx.Malformed line))
-report_from (Rx.Bad fault) words = refused_line (read_says (Rx.Bad fault))
+unfoldable pub report_from : Result ℕ Refusal → (words : List ℕ) → List ℕ
+report_from (Ok count) words = report_on (take count words)
+report_from (Err refusal) words = refused_line (refusal_says refusal)

@@ -9,29 +9,29 @@ ghost use Rattle.replies.specs.Shows.{told};
 ghost use Rattle.words.specs.Words.{word_text};
 ghost use Rattle.fields.specs.Fields.{line_of};
 ghost use Rattle.report_lines.specs.Lines.{refused_line, set_lines};
-ghost use Rattle.report_parts.specs.Parts.{list_text};
+ghost use Rattle.report_parts.specs.Parts.{text_of};
 ghost use Rattle.report.specs.Report.{head_part, minimal_part, blocking_part, report_on, report_of};
 ghost use Rattle.intake.specs.Intake.{WasRead};
-ghost use Rattle.printing.specs.Printing.{Stands, Handed, All, counted_is, report_from};
+ghost use Rattle.printing.specs.Printing.{Stands, Handed, All, Counts, report_from};
 
-use answers::Read;
-use replies::Reply;
+use answers::Refusal;
+use fields::Field;
+use replies::{Reply, Says};
+use report_parts::ListPart;
 use std::io;
 use std::io::Write;
-use words::{B, BLOCKING, MINIMAL, Q};
+use words::Word;
 
-// What is counted of so many bytes: all, if they were taken.
+// What is counted of so many bytes: all if they were taken, and none if not.
 fn counted(taken: io::Result<()>, bytes: usize) -> io::Result<usize>
-    ensures { result ≡ counted_is taken bytes }
+    ensures { Counts taken bytes result }
 {
-    match taken {
-        Ok(()) => Ok(bytes),
-        Err(error) => Err(error),
-    }
+    taken?;
+    Ok(bytes)
 }
 
 // Hands the bytes of a line over, which the fields say.
-fn hand<W: Write>(out: &mut W, fields: &[u64], bytes: &[u8]) -> io::Result<usize>
+fn hand<W: Write>(out: &mut W, fields: &[Field], bytes: &[u8]) -> io::Result<usize>
     requires { (bytes.now ≡ line_of fields.now) × (length bytes.now ≤ 1092) }
     ensures { Handed (line_of fields.now) 0 1092 result }
 {
@@ -40,19 +40,21 @@ fn hand<W: Write>(out: &mut W, fields: &[u64], bytes: &[u8]) -> io::Result<usize
 
 // A line of up to six fields, which has at most 1,092 bytes, behind the bytes that are handed over before it. A report has some two million
 // bytes at the most; the bounds on how many are handed over already are there so that the counts can be added.
-fn print<W: Write>(out: &mut W, at: usize, fields: &[u64]) -> io::Result<usize>
-    requires { (at ≤ 4000000) × (length fields.now ≤ 12) }
+fn print<W: Write>(out: &mut W, at: usize, fields: &[Field]) -> io::Result<usize>
+    requires { (at ≤ 4000000) × (length fields.now ≤ 6) }
     ensures { Handed (line_of fields.now) at 1092 result }
 {
+    // No heap: room for the longest line, and a count beside it.
     let mut line = [0u8; 1092];
-    let k = fields::put_line(&mut line, fields);
-    let to = hand(out, fields, &line[..k])?;
+    let len = fields::line_len(fields);
+    fields::put_line(&mut line, fields);
+    let to = hand(out, fields, &line[..len])?;
     Ok(at + to)
 }
 
 // A line of the report on a table, which stands there. The table is lent for what is asked alone, so that nothing else can be printed.
-fn show<W: Write>(out: &mut W, table: &[u64], at: usize, fields: &[u64]) -> io::Result<usize>
-    requires { (Stands (report_on table.now) at (line_of fields.now)) × (at ≤ 4000000) × (length fields.now ≤ 12) }
+fn show<W: Write>(out: &mut W, table: &[u64], at: usize, fields: &[Field]) -> io::Result<usize>
+    requires { (Stands (report_on table.now) at (line_of fields.now)) × (at ≤ 4000000) × (length fields.now ≤ 6) }
     ensures { Handed (line_of fields.now) at 1092 result }
 {
     print(out, at, fields)
@@ -63,61 +65,52 @@ fn show_sets<W: Write>(
     out: &mut W,
     table: &[u64],
     at: usize,
-    letter: u64,
+    letter: Word,
     sets: &[u64],
 ) -> io::Result<usize>
     requires { (Stands (report_on table.now) at (set_lines (word_text letter) sets.now)) × (at ≤ 2000000) × (length sets.now ≤ 1024) }
     ensures { Handed (set_lines (word_text letter) sets.now) at 1118208 result }
 {
     let mut place = at;
-    let mut i = 0;
-    while i < sets.len() {
-        let line = report_lines::one(letter, sets[i]);
-        let to = show(out, table, place, &line)?;
-        place = to;
-        i += 1;
+    for set in sets {
+        let line = report_lines::one(letter, *set);
+        place = show(out, table, place, &line)?;
     }
     Ok(place)
 }
 
 // A list: its line, and the lines of its sets.
-fn show_list<W: Write>(
-    out: &mut W,
-    table: &[u64],
-    at: usize,
-    name: u64,
-    letter: u64,
-    r: Reply,
-    sets: &[u64],
-) -> io::Result<usize>
-    requires { (Stands (report_on table.now) at (list_text (word_text name) (word_text letter) r sets.now)) × (at ≤ 1500000) × (length sets.now ≤ 1024) }
-    ensures { Handed (list_text (word_text name) (word_text letter) r sets.now) at 1119300 result }
+fn show_list<W: Write>(out: &mut W, table: &[u64], at: usize, list: &ListPart) -> io::Result<usize>
+    requires { (Stands (report_on table.now) at (text_of list.now)) × (at ≤ 1500000) }
+    ensures { Handed (text_of list.now) at 1119300 result }
 {
-    let line = report_lines::listed(name, r);
+    let line = report_lines::listed(list.name, list.reply);
     let to = show(out, table, at, &line)?;
-    show_sets(out, table, to, letter, sets)
+    show_sets(out, table, to, list.letter, list.sets)
 }
 
 // The nodes and records of the table, and the verdict: what the report starts with.
 fn show_head<W: Write>(out: &mut W, table: &[u64]) -> io::Result<usize>
     ensures { Handed (head_part table.now) 0 2184 result }
 {
-    let nodes = report_lines::nodes(replies::of_checked(faults::check_table(table)));
+    let nodes = report_lines::nodes(faults::check_table(table).reply());
     let to = show(out, table, 0, &nodes)?;
     let verdict = verdict::intersect(table, 0, report::ALLOWANCE);
-    let line = report_lines::verdict(replies::of_verdict(verdict));
+    let line = report_lines::verdict(verdict.reply());
     show(out, table, to, &line)
 }
 
 // The minimal quorums.
+// Its twin below asks another question and stands at another part of the report (`minimal_part`, `blocking_part`); one function with a switch would be
+// no plainer. So it is with `report::minimal` and `report::blocking`.
 fn show_minimal<W: Write>(out: &mut W, table: &[u64], at: usize) -> io::Result<usize>
     requires { (Stands (report_on table.now) at (minimal_part table.now)) × (at ≤ 1500000) }
     ensures { Handed (minimal_part table.now) at 1119300 result }
 {
     let mut sets = [0u64; 1024];
     let listed = report::minimal(table, &mut sets);
-    let k = report::following(listed);
-    show_list(out, table, at, MINIMAL, Q, listed, &sets[..k])
+    let list = report_parts::list(Word::Minimal, Word::Q, listed, &sets);
+    show_list(out, table, at, &list)
 }
 
 // The minimal blocking sets.
@@ -127,12 +120,17 @@ fn show_blocking<W: Write>(out: &mut W, table: &[u64], at: usize) -> io::Result<
 {
     let mut sets = [0u64; 1024];
     let listed = report::blocking(table, &mut sets);
-    let k = report::following(listed);
-    show_list(out, table, at, BLOCKING, B, listed, &sets[..k])
+    let list = report_parts::list(Word::Blocking, Word::B, listed, &sets);
+    show_list(out, table, at, &list)
 }
 
 // The report on a table, which is that on what was read.
-fn show_table<W: Write>(out: &mut W, read: Read, words: &[u64], table: &[u64]) -> io::Result<usize>
+fn show_table<W: Write>(
+    out: &mut W,
+    read: Result<u64, Refusal>,
+    words: &[u64],
+    table: &[u64],
+) -> io::Result<usize>
     requires { report_on table.now ≡ report_from read words.now }
     ensures { All (report_from read words.now) result }
 {
@@ -142,7 +140,13 @@ fn show_table<W: Write>(out: &mut W, read: Read, words: &[u64], table: &[u64]) -
 }
 
 // A bad sheet: one line.
-fn show_refused<W: Write>(out: &mut W, read: Read, words: &[u64], r: Reply) -> io::Result<usize>
+// What was read and the words it was read to are lent to say whose report this is (`report_from`); a struct would say the same with a name more.
+fn show_refused<W: Write>(
+    out: &mut W,
+    read: Result<u64, Refusal>,
+    words: &[u64],
+    r: Reply,
+) -> io::Result<usize>
     requires { refused_line (told r) ≡ report_from read words.now }
     ensures { All (report_from read words.now) result }
 {
@@ -151,12 +155,16 @@ fn show_refused<W: Write>(out: &mut W, read: Read, words: &[u64], r: Reply) -> i
 }
 
 // The report on a sheet, from what it was read to: one line for a bad one, otherwise that on the table of its words.
-pub fn show_read<W: Write>(out: &mut W, read: Read, words: &[u64]) -> io::Result<usize>
+pub fn show_read<W: Write>(
+    out: &mut W,
+    read: Result<u64, Refusal>,
+    words: &[u64],
+) -> io::Result<usize>
     requires { WasRead read words.now }
     ensures { (w : WasRead read words.now) → All (report_of w.sheet) result }
 {
-    let Read::Words { count } = read else {
-        return show_refused(out, read, words, replies::of_read(read));
+    let Ok(count) = read else {
+        return show_refused(out, read, words, read.reply());
     };
     let k = count as usize;
     show_table(out, read, words, &words[..k])
@@ -166,6 +174,7 @@ pub fn show_read<W: Write>(out: &mut W, read: Read, words: &[u64]) -> io::Result
 pub fn show_report<W: Write>(out: &mut W, sheet: &[u8]) -> io::Result<usize>
     ensures { All (report_of sheet.now) result }
 {
+    // No heap: room for the words of 256 lines, and a count beside it.
     let mut words = [0u64; 512];
     let read = sheets::read_sheet(sheet, &mut words);
     show_read(out, read, &words)

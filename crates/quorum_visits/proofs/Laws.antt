@@ -4,25 +4,22 @@ use mathlib.Core.Bool.{Bool, true, false, not}
 use mathlib.Core.List.{List}
 use mathlib.Core.Logic.{◌⊎◌, inl, inr, ⊎_elim}
 use Prim.Native.Nat.{ℕ, ◌^◌, ◌<◌}
-use native.Mathlib.Omega.{arith}
 use borrow.Author.Tests.{eqb-true, eqb-false, eq-eqb, ne_eqb}
 use lib.Bits.{or_comm, or_zero_r}
 use Rattle.sets.specs.Sets.{nobody, only, ◌∪◌, ◌∖◌, empty, within, each}
-use Rattle.sets.proofs.Bools.{either, clash, or_fails, or_left, or_right, or_neither, not_fails}
-use Rattle.sets.proofs.Members.{has_below, ∖-lt, within-sub}
+use Rattle.sets.proofs.Bools.{either, clash, or_fails, or_neither, not_fails}
+use Rattle.sets.proofs.Members.{∖-lt, within-sub}
 use Rattle.meanings.specs.Table.{nodes, satisfied}
 use Rattle.meanings.specs.Quorums.{quorum, greatest}
 use Rattle.theory.proofs.Greatest.{greatest-lt, greatest-apart}
 use Rattle.theory.proofs.Tests.{no-nodes, as_settled}
-use Rattle.tables.proofs.Sound.{sound_table}
-use Rattle.plans.specs.Plans.{Planned}
 use Rattle.greatest.specs.Greatest.{holding, Waiting, Apart, Striking}
-use Rattle.greatest.proofs.Below.{held, not_held, held_is, apart_none, none-waiting, waiting_grows, one_lt, strikes_one, left_out, taken_in}
+use Rattle.greatest.proofs.Below.{held, held_is, apart_none, none-waiting, waiting_grows, one_lt, strikes_one, left_out, taken_in}
 use Rattle.quorum_visits.specs.declared.Visit.{Visit}
 use Rattle.quorum_visits.specs.Visits.{reach, dry, Stands, Waiter, Ready, Below}
 
 -- ---- steps (2) and (3)
-module _ (t plan : List ℕ) (d : ℕ) (a : Visit) (S : Stands t plan d a) where
+module _ (t : List ℕ) (d : ℕ) (a : Visit) (S : Stands t d a) where
   abbrev n : ℕ
   n = nodes t
 
@@ -31,13 +28,6 @@ module _ (t plan : List ℕ) (d : ℕ) (a : Visit) (S : Stands t plan d a) where
 
   abbrev whole : ℕ
   whole = reach t d a.c a.r
-
-  pub is_dry : a.g ≡ nobody → dry t d a.c a.r ≡ true
-  is_dry z =
-      ⊎_elim
-      (λ e. or_left (empty whole) (not (within a.c whole)) (eq-eqb whole 0 e))
-      (λ e. or_right (empty whole) (not (within a.c whole)) (ap not e))
-      (not_held a.c whole a.g S.in_reach z)
 
   module _ (z : ¬ (a.g ≡ nobody)) where
     g_held : (within a.c whole ≡ true) × (a.g ≡ whole)
@@ -82,12 +72,6 @@ module _ (t plan : List ℕ) (d : ℕ) (a : Visit) (S : Stands t plan d a) where
     choices_lt : a.g ∖ a.c < 2 ^ n
     choices_lt = ∖-lt n a.g a.c (subst (λ (x : ℕ). x < 2 ^ n) (sym hold.1) (greatest-lt n s d (a.c ∪ a.r)))
 
-    pub node_lt : v < 64
-    node_lt =
-        let l = has_below n (a.g ∖ a.c) v choices_lt R.one_in in
-        let m = (sound_table t S.planned.checked).nodes-le in
-        omega arith
-
     pub strikes : Striking t d a.g v a.c
     strikes = strikes_one t d a.c a.r a.g v hc hold.1 hold.0 R.one_in
 
@@ -95,11 +79,10 @@ module _ (t plan : List ℕ) (d : ℕ) (a : Visit) (S : Stands t plan d a) where
     open_lt r e = subst (λ (x : ℕ). x < 2 ^ n) (sym e) (∖-lt n (a.g ∖ a.c) (only v) choices_lt)
 
     pub left_below : (r g : ℕ) → r ≡ a.g ∖ a.c ∖ only v → g ≡ holding a.c (greatest n s d (a.g ∖ only v))
-        → Below t plan d a v a.c (record { c = a.c; r = r; g = g; due = due; grown = false })
+        → Below t d a v a.c (record { c = a.c; r = r; g = g; due = due; grown = false })
     left_below r g er eg =
         record {
           stands = record {
-            planned = S.planned;
             open_in = open_lt r er;
             in_reach = left_out t d a.c a.r a.g v hc hold.1 hold.0 R.one_in g eg ∙ ap (λ (x : ℕ). holding a.c (reach t d a.c x)) (sym er);
             waiting = R.waiter.waiting;
@@ -110,11 +93,10 @@ module _ (t plan : List ℕ) (d : ℕ) (a : Visit) (S : Stands t plan d a) where
         }
 
     pub taken_below : (one r : ℕ) → one ≡ only v → r ≡ a.g ∖ a.c ∖ only v
-        → Below t plan d a v (a.c ∪ only v) (record { c = a.c ∪ one; r = r; g = a.g; due = due ∪ one; grown = true })
+        → Below t d a v (a.c ∪ only v) (record { c = a.c ∪ one; r = r; g = a.g; due = due ∪ one; grown = true })
     taken_below one r eo er =
         record {
           stands = record {
-            planned = S.planned;
             open_in = open_lt r er;
             in_reach = taken_in t d a.c a.r a.g v hc hold.1 hold.0 R.one_in ∙ ap₂ (λ (x y : ℕ). holding (a.c ∪ x) (reach t d (a.c ∪ x) y)) (sym eo) (sym er);
             waiting = waiting_grows t d a.c due one R.waiter.waiting (subst (λ (x : ℕ). x < 2 ^ n) (sym eo) (one_lt t d a.c a.r a.g v hc hold.1 hold.0 R.one_in));
@@ -125,11 +107,10 @@ module _ (t plan : List ℕ) (d : ℕ) (a : Visit) (S : Stands t plan d a) where
         }
 
 -- ---- the first visit
-pub starts : (t plan : List ℕ) (d u g : ℕ) → Planned t plan → u < 2 ^ nodes t → g ≡ holding nobody (greatest (nodes t) (satisfied t) d u)
-    → Stands t plan d (record { c = nobody; r = u; g = g; due = nobody; grown = true })
-starts t plan d u g P h e =
+pub starts : (t : List ℕ) (d u g : ℕ) → u < 2 ^ nodes t → g ≡ holding nobody (greatest (nodes t) (satisfied t) d u)
+    → Stands t d (record { c = nobody; r = u; g = g; due = nobody; grown = true })
+starts t d u g h e =
     record {
-      planned = P;
       open_in = h;
       in_reach = e ∙ ap (λ (x : ℕ). holding nobody (greatest (nodes t) (satisfied t) d x)) (sym (or_comm nobody u ∙ or_zero_r u));
       waiting = none-waiting t d;

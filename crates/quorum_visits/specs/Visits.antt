@@ -1,10 +1,9 @@
 -- What a visit of the tree of the verdict, or of the minimal quorums, knows from the visit above it, what it comes to before it splits, and
 -- what it hands to the two visits below.
-use Rattle.std.specs.Prelude.{◌≡◌, Bool, true, false, not, ◌||◌, cond, List, ℕ, ◌<◌, ◌^◌}
+use Rattle.std.specs.Prelude.{◌≡◌, Bool, true, false, not, ◌||◌, List, ℕ, ◌<◌, ◌^◌}
 use Rattle.meanings.specs.Of as of
 use Rattle.sets.specs.Sets.{has, nobody, only, ◌∪◌, ◌∖◌, empty, within}
 use Rattle.meanings.specs.Table.{nodes}
-use Rattle.plans.specs.Plans.{Planned}
 use Rattle.greatest.specs.Greatest.{holding, Waiting}
 use Rattle.quorum_visits.specs.declared.Visit.{Visit}
 use Rattle.quorum_visits.specs.declared.Met.{Met}
@@ -16,8 +15,7 @@ reach t d c r = of.greatest t d (c ∪ r)
 
 -- A visit with d counted out: g is the greatest quorum in c and r together where it has all of c, and otherwise nobody. The nodes of c that
 -- are not due are satisfied; where c has not grown since the visit above, it is known to be no quorum.
-pub record Stands (t plan : List ℕ) (d : ℕ) (a : Visit) : Type 0 where
-  pub planned : Planned t plan
+pub record Stands (t : List ℕ) (d : ℕ) (a : Visit) : Type 0 where
   pub open_in : a.r < 2 ^ nodes t
   pub in_reach : a.g ≡ holding a.c (reach t d a.c a.r)
   pub waiting : Waiting t d a.c a.due
@@ -42,13 +40,9 @@ pub record Ready (t : List ℕ) (d : ℕ) (a : Visit) (v due : ℕ) : Type 0 whe
   pub waiter : Waiter t d a due
   pub one_in : has (a.g ∖ a.c) v ≡ true
 
--- the nodes chosen below it, where v is chosen, and where it is left out
-abbrev pub chosen_below : Visit → ℕ → Bool → ℕ
-chosen_below a v taken = cond taken (a.c ∪ only v) a.c
-
 -- a visit below it, with the nodes c chosen
-pub record Below (t plan : List ℕ) (d : ℕ) (a : Visit) (v c : ℕ) (b : Visit) : Type 0 where
-  pub stands : Stands t plan d b
+pub record Below (t : List ℕ) (d : ℕ) (a : Visit) (v c : ℕ) (b : Visit) : Type 0 where
+  pub stands : Stands t d b
   pub chosen_are : b.c ≡ c
   pub open_are : b.r ≡ a.g ∖ a.c ∖ only v
 

@@ -7,6 +7,7 @@ use mathlib.Core.List.{List, [], ◌∷◌}
 use Prim.Native.Nat.{ℕ, ◌^◌, ◌<◌, ◌≤◌}
 use native.Mathlib.Omega.{arith}
 use borrow.Author.Tests.{eqb-true, eqb-false, ltb-true}
+use Rattle.std.specs.Prelude.{Result, Ok}
 use lib.Dec.{eqb, ltb}
 use lib.ListN.{length}
 use lib.Pow.{pow_pos}
@@ -19,10 +20,9 @@ use Rattle.meanings.specs.Quorums.{quorum, greatest, blocks, overlaps_slices}
 use Rattle.meanings.specs.Rounds.{rounds}
 use Rattle.meanings.specs.Replies.{Reply, reply, ◌is◌, Answer, Set, Rounds, rank, value}
 use Rattle.meanings.specs.Questions.{on_check, in_nodes, yes_or_no, quorum_reply, greatest_reply, blocks_reply}
+use Rattle.answers.specs.declared.Refusal.{Refusal}
 use Rattle.answers.specs.declared.Greatest.{Greatest}
-use Rattle.answers.specs.declared.Greatest.TheVariants as Gx
-use Rattle.answers.specs.declared.Judged.{Judged}
-use Rattle.answers.specs.Said.{judged_says, greatest_says}
+use Rattle.answers.specs.Said.{yes_says, judged_says, greatest_says}
 use Rattle.theory.proofs.Quorum.{quorum_is, is_quorum}
 use Rattle.theory.proofs.Greatest.{greatest-lt, greatest-sub, greatest-has, greatest-quorum, greatest_unique}
 use Rattle.theory.proofs.Rounds.{rounds-none, rounds-some}
@@ -99,18 +99,23 @@ pub record Answered (t : List ℕ) (d u g k : ℕ) : Type 0 where
   pub largest : Largest t d u g
   pub counted : Counted t d u k
 
-pub greatest_means : (t : List ℕ) (d u : ℕ) (o : Greatest) → greatest_says o ≡ greatest_reply t d u → (g k : ℕ) → o ≡ Gx.Is g k → Answered t d u g k
+pub greatest_means : (t : List ℕ) (d u : ℕ) (o : Result Greatest Refusal) → greatest_says o ≡ greatest_reply t d u → (g : Greatest) → o ≡ Ok g → Answered t d u g.set g.rounds
 unfolding greatest_reply
-greatest_means t d u o says g k e =
+greatest_means t d u o says g e =
     let n = nodes t in
     let s = satisfied t in
-    let w = answered_back (check t) (within d (everyone n)) (within u (everyone n)) g k (greatest n s d u) (rounds n s d u) (sym (ap greatest_says e) ∙ says) in
+    let w = answered_back (check t) (within d (everyone n)) (within u (everyone n)) g.set g.rounds (greatest n s d u) (rounds n s d u) (sym (ap greatest_says e) ∙ says) in
     record {
       checked = w.0;
       union = w.3;
       largest = subst (Largest t d u) (sym w.3) (greatest_largest t d u);
       counted = subst (Counted t d u) (sym w.4) (rounds-counted t d u w.2);
     }
+
+-- a yes and a no say what the definition says of them
+pub says_yes : (yes : Bool) → yes_says yes ≡ yes_or_no yes
+says_yes true = refl
+says_yes false = refl
 
 -- ---- a yes or a no is given only for a sound table and arguments among its nodes, and it is what the definition says
 abbrev first_field : Reply → ℕ
@@ -136,7 +141,7 @@ pub record BlocksNode (t : List ℕ) (b v : ℕ) (yes : Bool) : Type 0 where
   pub by_others : (has b v || not (satisfied t (everyone (nodes t) ∖ b) v)) ≡ yes
   pub by_slices : overlaps_slices (nodes t) (satisfied t) b v ≡ yes
 
-module _ (t : List ℕ) (o : Judged) (yes : Bool) (answer : judged_says o ≡ yes_or_no yes) where
+module _ (t : List ℕ) (o : Result Bool Refusal) (yes : Bool) (answer : judged_says o ≡ yes_or_no yes) where
   pub quorum_means : (d u : ℕ) → judged_says o ≡ quorum_reply t d u → (check t ≡ sound) × (quorum (nodes t) (satisfied t) d u ≡ yes)
   unfolding quorum_reply
   quorum_means d u says =

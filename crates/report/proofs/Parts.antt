@@ -4,6 +4,8 @@ use Prim.Native.Nat.{ℕ, ◌≤◌}
 use native.Mathlib.Omega.{arith}
 use mathlib.Core.Path.{◌≡◌, refl, sym, ap, ◌∙◌, subst}
 use mathlib.Core.Bool.{true, false}
+use borrow.Author.Tests.{ne_eqb}
+use Rattle.std.specs.Prelude.{Result, Ok, Err}
 use mathlib.Core.List.{List, ◌++◌}
 use lib.Dec.{eqb}
 use lib.ListN.{length, take, drop}
@@ -13,30 +15,27 @@ use Rattle.meanings.specs.Replies.{Reply as Told, value, Count, leaves}
 use Rattle.meanings.specs.Table.{nodes, satisfied}
 use Rattle.meanings.specs.Quorums.{minimal_quorums, minimal_blocking_sets}
 use Rattle.meanings.specs.Questions.{check_reply, verdict_reply, minimal_reply, blocking_reply}
-use Rattle.answers.specs.declared.Fault.{Fault}
-use Rattle.answers.specs.declared.Fault.TheVariants as Fx
 use Rattle.answers.specs.declared.Listed.{Listed}
-use Rattle.answers.specs.declared.Listed.TheVariants as Lx
-use Rattle.answers.specs.Said.{fault_says, listed_says}
+use Rattle.answers.specs.declared.Refusal.{Refusal}
+use Rattle.answers.specs.Said.{refusal_says, listed_says}
+use Rattle.answers.proofs.Exact.{refusal_not}
 use Rattle.replies.specs.declared.Reply.{Reply}
 use Rattle.replies.specs.Shows.{Shows}
 use Rattle.lists.specs.Lists.{ListsMinimal, ListsBlocking}
 use Rattle.lists.proofs.Means.{minimal-all, blocking-all}
+use Rattle.words.specs.declared.Word.{Word}
+use Rattle.words.specs.declared.Word.TheVariants.{Minimal, Q, Blocking, B}
+use Rattle.words.specs.Words.{word_text}
 use Rattle.words.specs.Words as word
 use Rattle.report_lines.specs.Lines.{set_lines}
 use Rattle.report_lines.proofs.Told.{nodes-told, verdict-told, list-told}
-use Rattle.report_parts.specs.Parts.{following, list_text, head_text, all_text}
+use Rattle.report_parts.specs.declared.list_part.ListPart.{ListPart}
+use Rattle.report_parts.specs.Parts.{following, list_text, head_text, text_of, all_text, IsListOf}
 use Rattle.report.specs.Report.{list_part, Part, head_part, minimal_part, blocking_part, report_on, allowance, room}
 
--- a fault's number is not 0
-pub fault_some : (f : Fault) → eqb (fault_says f).number 0 ≡ false
-fault_some (Fx.Count p) = refl
-fault_some (Fx.Control p) = refl
-fault_some (Fx.Level p) = refl
-fault_some (Fx.Nodes p) = refl
-fault_some (Fx.Threshold p) = refl
-fault_some (Fx.Member p) = refl
-fault_some (Fx.Entries p) = refl
+-- a refusal's number is not 0
+pub refusal_some : (e : Refusal) → eqb (refusal_says e).number 0 ≡ false
+refusal_some e = ne_eqb (refusal_says e).number 0 (refusal_not e)
 
 -- ---- a list
 module _ (name letter own : List ℕ) (said : Told) (r : Reply) (h : Shows r said) where
@@ -56,21 +55,18 @@ module _ (name letter own : List ℕ) (said : Told) (r : Reply) (h : Shows r sai
       }
 
 -- an answer that counts, counts these sets, no more than there is room for
-abbrev Counts : Listed → (own : List ℕ) → Type 0
-Counts l own = (count visits : ℕ) → l ≡ Lx.Sets count visits → (count ≡ length own) × (count ≤ 1024)
+abbrev Counts : Result Listed Refusal → (own : List ℕ) → Type 0
+Counts l own = (x : Listed) → l ≡ Ok x → (x.count ≡ length own) × (x.count ≤ 1024)
 
-listed_part : (name letter own before after : List ℕ) (l : Listed) (r : Reply) → Shows r (listed_says l) → Counts l own
+listed_part : (name letter own before after : List ℕ) (l : Result Listed Refusal) (r : Reply) → Shows r (listed_says l) → Counts l own
     → after ≡ leaves (listed_says l).number own before → Part name letter (list_part name letter (listed_says l) own) r after
-listed_part name letter own before after (Lx.Sets count visits) r h k e =
-    let n = k count visits refl in
+listed_part name letter own before after (Ok x) r h k e =
+    let n = k x refl in
     let f : length own ≤ 1024 = omega (arith, n.0, n.1) in
-    followed name letter own (listed_says (Lx.Sets count visits)) r h before after refl n.0 f e
-listed_part name letter own before after (Lx.Short count) r h k e = alone name letter own (listed_says (Lx.Short count)) r h after refl
-listed_part name letter own before after (Lx.Spent visits) r h k e = alone name letter own (listed_says (Lx.Spent visits)) r h after refl
-listed_part name letter own before after Lx.Unsplit r h k e = alone name letter own (listed_says Lx.Unsplit) r h after refl
-listed_part name letter own before after (Lx.Bad f) r h k e = alone name letter own (fault_says f) r h after (fault_some f)
+    followed name letter own (listed_says (Ok x)) r h before after refl n.0 f e
+listed_part name letter own before after (Err e) r h k a = alone name letter own (refusal_says e) r h after (refusal_some e)
 
-module _ (t before after : List ℕ) (l : Listed) (r : Reply) (sets : length before ≡ 1024) (h : Shows r (listed_says l)) where
+module _ (t before after : List ℕ) (l : Result Listed Refusal) (r : Reply) (sets : length before ≡ 1024) (h : Shows r (listed_says l)) where
   list_whole : (name letter own : List ℕ) (said : Told) → Counts l own → listed_says l ≡ said → after ≡ leaves said.number own before
       → Part name letter (list_part name letter said own) r after
   list_whole name letter own said k e a =
@@ -81,8 +77,8 @@ module _ (t before after : List ℕ) (l : Listed) (r : Reply) (sets : length bef
   unfolding minimal_part
   minimal_part_lem p =
       list_whole word.minimal word.q (minimal_quorums (nodes t) (satisfied t)) (minimal_reply t allowance room)
-      (λ count visits e.
-      let a = minimal-all t allowance before after count visits (subst (ListsMinimal t allowance before after) e p) in
+      (λ x e.
+      let a = minimal-all t allowance before after x (subst (ListsMinimal t allowance before after) e p) in
       (a.counted, omega (arith, a.fits)))
       (rw sets at p.answers)
       (rw sets at p.holds)
@@ -91,16 +87,27 @@ module _ (t before after : List ℕ) (l : Listed) (r : Reply) (sets : length bef
   unfolding blocking_part
   blocking_part_lem p =
       list_whole word.blocking word.b (minimal_blocking_sets (nodes t) (satisfied t)) (blocking_reply t allowance room)
-      (λ count visits e.
-      let a = blocking-all t allowance before after count visits (subst (ListsBlocking t allowance before after) e p) in
+      (λ x e.
+      let a = blocking-all t allowance before after x (subst (ListsBlocking t allowance before after) e p) in
       (a.counted, omega (arith, a.fits)))
       (rw sets at p.answers)
       (rw sets at p.holds)
 
 -- ---- the report on a table: the lines of the four answers, with the sets behind each list's line
-pub whole : (t : List ℕ) (c v m b : Reply) (quorums blocks : List ℕ) (k j : ℕ) → k ≡ following m → j ≡ following b → Shows c (check_reply t)
-    → Shows v (verdict_reply t nobody allowance) → Part word.minimal word.q (minimal_part t) m quorums
-    → Part word.blocking word.b (blocking_part t) b blocks → all_text c v m (take k quorums) b (take j blocks) ≡ report_on t
+pub text_is : (name letter : Word) (r : Reply) (sets whole : List ℕ) (l : ListPart) → IsListOf name letter r (take (following r) sets) l
+    → Part (word_text name) (word_text letter) whole r sets → text_of l ≡ whole
+unfolding text_of
+text_is name letter r sets whole l p h = rw (p.named, p.lettered, p.replied, p.follows) h.comes
+
+pub whole : (t : List ℕ) (c v m b : Reply) (sets blocking : List ℕ) (quorums blocks : ListPart) → IsListOf Minimal Q m (take (following m) sets) quorums
+    → IsListOf Blocking B b (take (following b) blocking) blocks → Shows c (check_reply t) → Shows v (verdict_reply t nobody allowance)
+    → Part word.minimal word.q (minimal_part t) m sets → Part word.blocking word.b (blocking_part t) b blocking
+    → all_text c v quorums blocks ≡ report_on t
 unfolding all_text head_text head_part report_on
-whole t c v m b quorums blocks k j e f hc hv hm hb =
-    rw (e, f, nodes-told c _ hc, verdict-told v _ hv, hm.comes, hb.comes)
+whole t c v m b sets blocking quorums blocks p q hc hv hm hb =
+    rw (
+      nodes-told c _ hc,
+      verdict-told v _ hv,
+      text_is Minimal Q m sets (minimal_part t) quorums p hm,
+      text_is Blocking B b blocking (blocking_part t) blocks q hb,
+    )

@@ -5,12 +5,11 @@ use mathlib.Core.Bool.{false}
 use mathlib.Core.List.{List, [], ◌∷◌}
 use borrow.Author.Tests.{eq-eqb}
 use lib.Dec.{eqb}
+use Rattle.std.specs.Prelude.{Result, Ok, Err}
 use lib.ListN.{length, take, drop}
 use lib.Seq.{take_at}
 use Rattle.meanings.specs.Replies.{Reply, reply, value, ◌is◌, Count, lent_exact}
-use Rattle.answers.specs.declared.Read.{Read}
-use Rattle.answers.specs.declared.Read.TheVariants as Rx
-use Rattle.answers.specs.declared.Wrote.{Wrote}
+use Rattle.answers.specs.declared.Refusal.{Refusal}
 use Rattle.answers.specs.Said.{read_says}
 use Rattle.answers.proofs.Exact.{wrote_exact}
 use Rattle.sheets.specs.Sheets.{read_reply, read_puts}
@@ -20,14 +19,14 @@ use Rattle.sheets.proofs.Trips.{answer_is}
 use Rattle.sheets.proofs.Bounds.{first_bytes}
 use Rattle.report_lines.specs.Lines.{refused_line}
 use Rattle.report.specs.Report.{most_words, report_on, report_of, ReportPromise}
-use Rattle.report.proofs.Parts.{fault_some}
+use Rattle.report.proofs.Parts.{refusal_some}
 
 -- ---- a sheet that is read: the table is its words, which have room there
-module _ (s before after : List ℕ) (r : Read) (p : ReadPromise s before after r) (room : length before ≡ most_words) where
+module _ (s before after : List ℕ) (r : Result ℕ Refusal) (p : ReadPromise s before after r) (room : length before ≡ most_words) where
   pub reads : read_says r ≡ read_reply s most_words
   reads = rw room at p.answers
 
-  module _ (count : ℕ) (e : r ≡ Rx.Words count) where
+  module _ (count : ℕ) (e : r ≡ Ok count) where
     counting : read_reply s most_words ≡ reply 0 (Count is count ∷ [])
     counting = sym reads ∙ ap read_says e
 
@@ -48,18 +47,13 @@ module _ (s before after : List ℕ) (r : Read) (p : ReadPromise s before after 
     good_sheet = rw (table_read, eq-eqb (read_reply s most_words).number 0 number)
 
 -- ---- a bad sheet: the line of what its reader says
-refused-some : (r : Read) → ((k : ℕ) → r ≡ Rx.Words k → ⊥) → eqb (read_says r).number 0 ≡ false
-refused-some (Rx.Words count) h = absurd (h count refl)
-refused-some (Rx.Short count) h = refl
-refused-some (Rx.Malformed line) h = refl
-refused-some (Rx.Bad f) h = fault_some f
-
-pub bad_sheet : (s before after : List ℕ) (r : Read) → ReadPromise s before after r → length before ≡ most_words
-    → ((k : ℕ) → r ≡ Rx.Words k → ⊥) → refused_line (read_says r) ≡ report_of s
+pub bad_sheet : (s before after : List ℕ) (r : Result ℕ Refusal) → ReadPromise s before after r → length before ≡ most_words
+    → (e : Refusal) → r ≡ Err e → refused_line (read_says r) ≡ report_of s
 unfolding report_of
-bad_sheet s before after r p room h =
-    let e = reads s before after r p room in
-    rw (← e, refused-some r h)
+bad_sheet s before after r p room e h =
+    let same = reads s before after r p room in
+    let some : eqb (read_says r).number 0 ≡ false = rw h (refusal_some e) in
+    rw (← same, some)
 
 -- the first 65,536 bytes of a sheet give the same report as all
 pub first_bytes_decide : (s : List ℕ) → report_of (take 65536 s) ≡ report_of s
@@ -67,5 +61,5 @@ unfolding report_of
 first_bytes_decide s = let f = first_bytes s in rw (f.says most_words, f.puts)
 
 -- two results that both fit are equal
-pub report_exact : (sheet before a b : List ℕ) (x y : Wrote) → ReportPromise sheet before a x → ReportPromise sheet before b y → (x ≡ y) × (a ≡ b)
+pub report_exact : (sheet before a b : List ℕ) (x y : Result ℕ Refusal) → ReportPromise sheet before a x → ReportPromise sheet before b y → (x ≡ y) × (a ≡ b)
 report_exact sheet before a b x y p q = let e = lent_exact p q in (wrote_exact x y e.0, e.1)

@@ -1,11 +1,11 @@
 -- SPECIFICATION 9: what the whole report of a sheet is, and what the operation that writes it promises.
-use Rattle.std.specs.Prelude.{ℕ, ◌≤◌, ◌≡◌, cond, List, [], ◌++◌, eqb, take}
+use Rattle.std.specs.Prelude.{ℕ, ◌≤◌, ◌≡◌, cond, List, [], ◌++◌, eqb, take, Result}
 use Rattle.meanings.specs.Of as of
 use Rattle.sets.specs.Sets.{nobody}
 use Rattle.meanings.specs.Replies.{Reply}
 use Rattle.meanings.specs.Questions.{check_reply, verdict_reply, minimal_reply, blocking_reply}
 use Rattle.answers.specs.Said.{wrote_says}
-use Rattle.answers.specs.declared.Wrote.{Wrote}
+use Rattle.answers.specs.declared.Refusal.{Refusal}
 use Rattle.replies.specs.declared.Reply.{Reply as Struct}
 use Rattle.sheets.specs.Sheets.{read_reply, read_puts}
 use Rattle.sheets.specs.Promises.{Put}
@@ -48,7 +48,7 @@ unfoldable pub report_of : (sheet : List ℕ) → List ℕ
 report_of s = cond (eqb (read_reply s most_words).number 0) (report_on (read_puts s)) (refused_line (read_reply s most_words))
 
 -- The whole report at the front of a lent buffer; 10 with the bytes needed where it is too short. A bad sheet's report is its one line.
-abbrev pub ReportPromise : (sheet before after : List ℕ) → Wrote → Type 0
+abbrev pub ReportPromise : (sheet before after : List ℕ) → Result ℕ Refusal → Type 0
 ReportPromise sheet before after r = Put (report_of sheet) before after (wrote_says r)
 
 -- a list's answer, with the sets that follow its line, comes to its part of the report

@@ -4,6 +4,7 @@ use Rattle.decimal.specs.Decimal.{numeral}
 use Rattle.members.specs.Members.{member_text}
 use Rattle.meanings.specs.Replies.{Reply, value, Place, Nodes, Records, Answer, First, Second, Count, Visits}
 use Rattle.fields.specs.Fields.{row, line_of}
+use Rattle.fields.specs.declared.Field.{Field}
 use Rattle.words.specs.Words as word
 
 -- a bad sheet: number and place
@@ -43,7 +44,7 @@ unfoldable pub set_lines : (letter : List ℕ) → List ℕ → List ℕ
 set_lines letter [] = []
 set_lines letter (s ∷ l) = set_line letter s ++ set_lines letter l
 
--- the fields of a line, so many words, come to its text
-pub record Fields (words : ℕ) (fields text : List ℕ) : Type 0 where
-  pub long : words ≡ length fields
+-- so many fields come to the text of a line
+pub record Fields (count : ℕ) (fields : List Field) (text : List ℕ) : Type 0 where
+  pub long : count ≡ length fields
   pub comes : line_of fields ≡ text

@@ -6,59 +6,72 @@ ghost use Rattle.replies.specs.Shows.{told};
 ghost use Rattle.words.specs.Words.{word_text};
 ghost use Rattle.report_lines.specs.Lines.{refused_line, nodes_line, answer_text, verdict_line, list_line, set_line, Fields};
 
-use fields::{NUMBER, SET, WORD};
+use fields::Field;
+use fields::Field::{Fixed, Number, Set};
 use replies::Reply;
-use words::{NO, NODES, NONE, REFUSED, SETS, VERDICT, YES};
+use words::Word;
 
 // A sheet is turned away: number and place.
-pub fn refused(r: Reply) -> [u64; 6]
-    ensures { Fields 6 result (refused_line (told r)) }
+pub fn refused(r: Reply) -> [Field; 3]
+    ensures { Fields 3 result (refused_line (told r)) }
 {
-    [WORD, REFUSED, NUMBER, r.number, NUMBER, r.place]
+    [Fixed(Word::Refused), Number(r.number), Number(r.place)]
 }
 
 // The nodes and records of a table.
-pub fn nodes(r: Reply) -> [u64; 8]
-    ensures { Fields 8 result (nodes_line (told r)) }
+pub fn nodes(r: Reply) -> [Field; 4]
+    ensures { Fields 4 result (nodes_line (told r)) }
 {
-    [WORD, NODES, NUMBER, r.nodes, WORD, SETS, NUMBER, r.records]
+    [
+        Fixed(Word::Nodes),
+        Number(r.nodes),
+        Fixed(Word::Sets),
+        Number(r.records),
+    ]
 }
 
 // Yes or no where the question is answered, and a hyphen where it is not.
-fn answer(r: Reply) -> u64
+fn answer(r: Reply) -> Word
     ensures { word_text result ≡ answer_text (told r) }
 {
     if r.number != 0 {
-        return NONE;
+        return Word::Hyphen;
     }
     if r.answer == 1 {
-        return YES;
+        return Word::Yes;
     }
-    NO
+    Word::No
 }
 
 // The verdict: number, answer, visits and the two sets.
-pub fn verdict(r: Reply) -> [u64; 12]
-    ensures { Fields 12 result (verdict_line (told r)) }
+pub fn verdict(r: Reply) -> [Field; 6]
+    ensures { Fields 6 result (verdict_line (told r)) }
 {
-    let said = answer(r);
     [
-        WORD, VERDICT, NUMBER, r.number, WORD, said, NUMBER, r.visits, SET, r.first, SET, r.second,
+        Fixed(Word::Verdict),
+        Number(r.number),
+        Fixed(answer(r)),
+        Number(r.visits),
+        Set(r.first),
+        Set(r.second),
     ]
 }
 
 // A list before its sets, by its name: number, count and visits.
-pub fn listed(name: u64, r: Reply) -> [u64; 8]
-    ensures { Fields 8 result (list_line (word_text name) (told r)) }
+pub fn listed(name: Word, r: Reply) -> [Field; 4]
+    ensures { Fields 4 result (list_line (word_text name) (told r)) }
 {
     [
-        WORD, name, NUMBER, r.number, NUMBER, r.count, NUMBER, r.visits,
+        Fixed(name),
+        Number(r.number),
+        Number(r.count),
+        Number(r.visits),
     ]
 }
 
 // One set of a list, behind the letter of the list.
-pub fn one(letter: u64, set: u64) -> [u64; 4]
-    ensures { Fields 4 result (set_line (word_text letter) set) }
+pub fn one(letter: Word, set: u64) -> [Field; 2]
+    ensures { Fields 2 result (set_line (word_text letter) set) }
 {
-    [WORD, letter, SET, set]
+    [Fixed(letter), Set(set)]
 }

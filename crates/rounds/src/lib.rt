@@ -2,38 +2,36 @@
 // counted out added, do not satisfy.
 #![tactic(auto)]
 
-ghost use Rattle.std.specs.Prelude.{◌≡◌, ◌<◌};
+ghost use Rattle.std.specs.Prelude.{◌≡◌, ◌<◌, ◌^◌};
 ghost use Rattle.sets.specs.Sets.{each};
 ghost use Rattle.meanings.specs.Table.{nodes as nodes_of, satisfied as satisfied_is};
 ghost use Rattle.meanings.specs.Of as of;
-ghost use Rattle.tables.specs.Heads.{Headed};
-ghost use Rattle.rounds.specs.Rounds.{Ground};
 
-#[derive(Clone, Copy)]
-pub struct Left {
-    pub set: u64,
-    pub rounds: u64,
-}
+use answers::Greatest;
+use tables::Headed;
 
 // Whether `with` satisfies the quorum set of node v.
-pub fn satisfied(t: &[u64], heads: &[u64], with: u64, v: u64) -> bool
-    requires { Headed t.now heads.now × (v < nodes_of t.now) }
-    ensures { result ≡ satisfied_is t.now with v }
+pub fn satisfied(heads: &Headed, with: u64, v: u64) -> bool
+    requires { v < nodes_of heads.now }
+    ensures { result ≡ satisfied_is heads.now with v }
 {
-    let r = heads[v as usize] as usize;
+    let t = heads.table();
+    let r = heads.head(v);
     satisfaction::enough(t, with, r) || satisfaction::satisfies(t, with, r)
 }
 
 // The greatest quorum within u with d counted out, and its rounds. A round that is not the last drops a node, so the rounds end.
-pub fn survivors(t: &[u64], heads: &[u64], nodes: u64, d: u64, u: u64) -> Left
-    requires { Ground t.now heads.now nodes u }
-    ensures { (result.set ≡ of.greatest t.now d u) × (result.rounds ≡ of.rounds t.now d u) }
+pub fn survivors(heads: &Headed, d: u64, u: u64) -> Greatest
+    requires { u < 2 ^ nodes_of heads.now }
+    ensures { (result.set ≡ of.greatest heads.now d u) × (result.rounds ≡ of.rounds heads.now d u) }
 {
     let mut present = sets::without(u, d);
     let mut count = 0u64;
     if present == 0 {
-        return Left { set: 0, rounds: 0 };
+        return Greatest { set: 0, rounds: 0 };
     }
+    let nodes = heads.table().nodes();
+    // The form that the scope paper names for this place: a loop over rounds with a nested walk over nodes, left from inside.
     'rounds: loop {
         let with = present | d;
         let mut keep = 0u64;
@@ -41,14 +39,14 @@ pub fn survivors(t: &[u64], heads: &[u64], nodes: u64, d: u64, u: u64) -> Left
         loop {
             if v == nodes {
                 if keep == present || keep == 0 {
-                    break 'rounds Left {
+                    break 'rounds Greatest {
                         set: keep,
                         rounds: count + 1,
                     };
                 }
                 break;
             }
-            if sets::contains(present, v) && satisfied(t, heads, with, v) {
+            if sets::contains(present, v) && satisfied(heads, with, v) {
                 keep = keep | sets::one(v);
             }
             v += 1;
@@ -59,24 +57,22 @@ pub fn survivors(t: &[u64], heads: &[u64], nodes: u64, d: u64, u: u64) -> Left
 }
 
 // Whether those of c are all satisfied by `with`.
-fn settled(t: &[u64], heads: &[u64], nodes: u64, with: u64, c: u64) -> bool
-    requires { Ground t.now heads.now nodes c }
-    ensures { result ≡ each (nodes_of t.now) c (λ v. satisfied_is t.now with v) }
+fn settled(heads: &Headed, with: u64, c: u64) -> bool
+    requires { c < 2 ^ nodes_of heads.now }
+    ensures { result ≡ each (nodes_of heads.now) c (λ v. satisfied_is heads.now with v) }
 {
-    let mut v = 0u64;
-    while v < nodes {
-        if sets::contains(c, v) && !satisfied(t, heads, with, v) {
+    for v in 0..heads.table().nodes() {
+        if sets::contains(c, v) && !satisfied(heads, with, v) {
             return false;
         }
-        v += 1;
     }
     true
 }
 
 // Whether c is a quorum with d counted out.
-pub fn quorum(t: &[u64], heads: &[u64], nodes: u64, d: u64, c: u64) -> bool
-    requires { Ground t.now heads.now nodes c }
-    ensures { result ≡ of.quorum t.now d c }
+pub fn quorum(heads: &Headed, d: u64, c: u64) -> bool
+    requires { c < 2 ^ nodes_of heads.now }
+    ensures { result ≡ of.quorum heads.now d c }
 {
     if c == 0 {
         return false;
@@ -84,5 +80,5 @@ pub fn quorum(t: &[u64], heads: &[u64], nodes: u64, d: u64, c: u64) -> bool
     if c & d != 0 {
         return false;
     }
-    settled(t, heads, nodes, c | d, c)
+    settled(heads, c | d, c)
 }

@@ -1,14 +1,14 @@
 -- What satisfying the set of a record comes to: the members that are in u, and the run of inner sets after the record. How many levels are
 -- said to lie below a record alters nothing from as many on as there are, so the sentence of SPECIFICATION 3 holds as it stands.
 use mathlib.Core.Path.{◌≡◌, refl, sym, ap, ap₂, ◌∙◌}
-use mathlib.Core.Bool.{Bool, true, false, ◌&&◌}
+use mathlib.Core.Bool.{Bool, true, false, not, ◌&&◌}
 use mathlib.Core.List.{List}
 use mathlib.Core.Logic.{⊎_elim}
 use Prim.Native.Nat.{ℕ, zero, suc, ◌+◌, ◌-◌, ◌<◌, ◌≤◌}
 use native.Mathlib.Nat.{lt_irrefl, add-zero}
 use native.Mathlib.Numerals.{sub-one}
 use native.Mathlib.Omega.{arith}
-use borrow.Author.Tests.{le-leb, lt-leb, leb-true, eqb-true}
+use borrow.Author.Tests.{le-leb, lt-leb, leb-true, eqb-true, eqb-false}
 use lib.Dec.{leb, eqb}
 use lib.ListN.{length}
 use Rattle.sets.specs.Sets.{size, ◌∩◌}
@@ -21,7 +21,7 @@ use Rattle.tables.specs.Run.{bump, inner_run}
 use Rattle.tables.proofs.Runs.{inner_from, inner_from_lem, from_end, from_stop}
 use Rattle.tables.proofs.Sound.{sound_table}
 use Rattle.satisfaction.specs.Judged.{holds, lack, still}
-use Rattle.satisfaction.proofs.Suffice.{waiting-suffice, unknown_never}
+use Rattle.satisfaction.proofs.Suffice.{waiting-suffice, unknown_never, member_known}
 
 pub judged_last : (t : List ℕ) (u r : ℕ) → satisfies 0 t u r ≡ suffice t r (size 64 (members t r ∩ u))
 unfolding satisfies
@@ -101,17 +101,20 @@ module _ (t : List ℕ) (e : check t ≡ sound) where
         ∙ waiting-suffice t r h (size 64 (members t r ∩ u) + still t u (level t r) (r + 1))
         ∙ leb-left (threshold t r) (size 64 (members t r ∩ u)) (still t u (level t r) (r + 1))
 
-    -- Without a member in u the whole threshold is wanting, so that where nothing is, the archive is unknown. Without inner sets to come either, u does not
-    -- satisfy it.
-    pub wanting : (r : ℕ) → 0 < threshold t r → (lack t u r ≡ 0 → members t r ∩ u ≡ 0) → 0 < lack t u r
-    wanting r h f =
-        ⊎_elim (λ (z : lack t u r ≤ 0). let n = ap (size 64) (f (omega arith)) ∙ size-nobody 64 in absurd (omega arith)) (λ p. p) (le-or-lt (lack t u r) 0)
+    -- Where nothing is wanting, u satisfies it if it has some member; with none, the threshold is 0, which is an unknown archive's.
+    pub judged_members : (r : ℕ) → r < records t → lack t u r ≡ 0 → not (eqb (members t r ∩ u) 0) ≡ holds t u r
+    judged_members r l none = go (eqb (members t r ∩ u) 0) refl
+      where
+        go : (b : Bool) → eqb (members t r ∩ u) 0 ≡ b → not b ≡ holds t u r
+        go true q =
+            let nobody_in : size 64 (members t r ∩ u) ≡ 0 = ap (size 64) (eqb-true (members t r ∩ u) 0 q) ∙ size-nobody 64 in
+            let zero : threshold t r ≡ 0 = omega arith in
+            sym (judged r l
+            ∙ unknown_never t r (((sound_table t e).at r l).zero-unknown zero) (size 64 (members t r ∩ u) + length (keep (holds t u) (inner_sets t r))))
+        go false q =
+            sym (judged_walk r l (member_known t e r u l (eqb-false (members t r ∩ u) 0 q))
+            ∙ le-leb (lack t u r) (still t u (level t r) (r + 1)) (omega arith))
 
-    pub judged_flat : (r : ℕ) → r < records t → still t u (level t r) (r + 1) ≡ 0 → (lack t u r ≡ 0 → members t r ∩ u ≡ 0) → holds t u r ≡ false
-    judged_flat r l flat f =
-        ⊎_elim
-        (λ (z : threshold t r ≤ 0).
-        judged r l
-        ∙ unknown_never t r (((sound_table t e).at r l).zero-unknown (omega arith)) (size 64 (members t r ∩ u) + length (keep (holds t u) (inner_sets t r))))
-        (λ (h : 0 < threshold t r). judged_walk r l h ∙ ap (leb (lack t u r)) flat ∙ lt-leb (lack t u r) 0 (wanting r h f))
-        (le-or-lt (threshold t r) 0)
+    -- where something is wanting and no inner sets are to come, it does not
+    pub judged_flat : (r : ℕ) → r < records t → still t u (level t r) (r + 1) ≡ 0 → 0 < lack t u r → holds t u r ≡ false
+    judged_flat r l flat some = judged_walk r l (omega arith) ∙ ap (leb (lack t u r)) flat ∙ lt-leb (lack t u r) 0 some

@@ -80,24 +80,23 @@ comes-none a b c h =
     let z : owed b (owed c 0 + 0) ≡ 0 = ap (owed b) (ap (λ (x : ℕ). x + 0) (owed_none c)) ∙ owed_none b in
     lt-leb a (owed b (owed c 0 + 0) + 0) (omega arith)
 
--- counters that are the same get the same
-pub same_counters : (x y z a b c n3 n2 n1 : ℕ) → (x ≡ a) × (y ≡ b) × (z ≡ c) → comes x y z n3 n2 n1 ≡ comes a b c n3 n2 n1
-same_counters x y z a b c n3 n2 n1 e = ap₂ (λ (p q : ℕ). comes p q z n3 n2 n1) e.0 e.1 ∙ ap (λ (q : ℕ). comes a b q n3 n2 n1) e.2
+-- a satisfied inner set counts, and wants none
+pub counts_one : (a n3 n2 n1 : ℕ) → 0 < a → comes (a - 1) 0 0 n3 n2 n1 ≡ leb a (suc n1)
+counts_one a n3 n2 n1 h = comes_outer (a - 1) 0 n3 n2 n1 ∙ one_less a n1 h
 
 -- the last one wanted by the inner set, and one that is not the last
-pub gain_last : (a b n3 n2 n1 : ℕ) → 0 < a → b ≡ 1 → comes (a - 1) 0 0 n3 n2 n1 ≡ leb a (owed b (suc n2) + n1)
-gain_last a b n3 n2 n1 h e =
+pub gain_last : (a b n2 n1 : ℕ) → b ≡ 1 → leb a (suc n1) ≡ leb a (owed b (suc n2) + n1)
+gain_last a b n2 n1 e =
     let one : owed b (suc n2) ≡ 1 = ap (λ (k : ℕ). owed k (suc n2)) e ∙ owed_last n2 in
     let sum : suc n1 ≡ owed b (suc n2) + n1 = omega arith in
-    comes_outer (a - 1) 0 n3 n2 n1 ∙ one_less a n1 h ∙ ap (leb a) sum
+    ap (leb a) sum
 
 pub gain_next : (a b n3 n2 n1 : ℕ) → 0 < b → ¬ (b ≡ 1) → comes a (b - 1) 0 n3 n2 n1 ≡ leb a (owed b (suc n2) + n1)
 gain_next a b n3 n2 n1 h q = comes_inner a (b - 1) n3 n2 n1 ∙ ap (λ (k : ℕ). leb a (k + n1)) (sym (owed_next b n2 h q))
 
 -- an inner set whose members are enough, and one whose members leave some wanting
-pub enter_met : (a s n3 n2 n1 : ℕ) → 0 < a → s ≡ 0 → comes (a - 1) 0 0 n3 n2 n1 ≡ leb a (bump (leb s n2) n1)
-enter_met a s n3 n2 n1 h e =
-    comes_outer (a - 1) 0 n3 n2 n1 ∙ one_less a n1 h ∙ ap (leb a) (sym (ap (λ (k : ℕ). bump (leb k n2) n1) e ∙ bump-all n2 n1))
+pub enter_met : (a s n2 n1 : ℕ) → s ≡ 0 → leb a (suc n1) ≡ leb a (bump (leb s n2) n1)
+enter_met a s n2 n1 e = ap (leb a) (sym (ap (λ (k : ℕ). bump (leb k n2) n1) e ∙ bump-all n2 n1))
 
 pub enter_short : (a s n3 n2 n1 : ℕ) → 0 < s → comes a s 0 n3 n2 n1 ≡ leb a (bump (leb s n2) n1)
 enter_short a s n3 n2 n1 h = comes_inner a s n3 n2 n1 ∙ ap (leb a) (owed-bump s n2 n1 h)

@@ -36,6 +36,7 @@ pub fn count(m: u64) -> u64
 }
 
 // The lowest node of m, or 64 where m is empty.
+// 64 is the definition's (`lowest`) and the processor's own answer, and whoever asks knows that m has a node, so an `Option` would be no plainer.
 pub fn first(m: u64) -> u64
     ensures { (result ≡ lowest 64 m) × (result ≤ 64) }
 {

@@ -3,31 +3,30 @@
 use Prim.Native.Nat.{ℕ, zero, suc, ◌+◌, ◌-◌, ◌*◌, ◌≤◌, ◌<◌}
 use native.Mathlib.Omega.{arith}
 use mathlib.Core.Path.{◌≡◌, refl, ap, sym, ◌∙◌}
-use mathlib.Core.Bool.{Bool, cond}
 use mathlib.Core.Logic.{⊎_elim}
-use mathlib.Core.List.{List, [], ◌∷◌, ◌++◌, append_assoc}
+use mathlib.Core.List.{List, ◌++◌, append_assoc}
 use lib.ListN.{length, take, drop, length-take, length-drop, take-append-drop}
 use lib.Seq.{take-add, drop_at, length-take-le}
 use Rattle.decimal.proofs.Order.{lt-or-le}
-use Rattle.lines.specs.Lines.{read_line}
+use Rattle.std.proofs.Common.{Option, Some, None}
+use Rattle.lines.specs.Lines.{read_line, given}
 use Rattle.lines.specs.declared.Line.{Line}
-use Rattle.lines.specs.declared.Line.TheVariants.{Good, Bad}
 use Rattle.lines.proofs.Round.{written_line, read_as, written_read, read_used, read_split}
 use Rattle.lines.proofs.Texts.{length_most}
 use Rattle.sheets.specs.Sheets.{words, before, take_lines, sheet_lines, read_reply, read_puts}
-use Rattle.sheets.proofs.Taking.{no_more, one_too_many, bad_line, good_line, line-some}
+use Rattle.sheets.proofs.Taking.{no_more, one_too_many, bad_line, two, nought_at, good_line, line-some}
 use Rattle.sheets.proofs.Round.{NextRead, next_read, never}
 use Rattle.sheets.proofs.Numbers.{answered}
 
 -- a line that is read has at most 188 bytes
-pub used_most : (s : List ℕ) (l t : ℕ) (z : Bool) (m k : ℕ) → read_line s ≡ Good l t z m k → k ≤ 188
-used_most s l t z m k e =
-    let r = written_read s l t z m k e in
-    omega (arith, read_used s l t z m k e, length_most l t m r.level r.threshold)
+pub used_most : (s : List ℕ) (l : Line) (k : ℕ) → read_line s ≡ Some (l, k) → k ≤ 188
+used_most s l k e =
+    let r = written_read s l k e in
+    omega (arith, read_used s l k e, length_most l.level (given l.threshold) l.members r.level r.threshold)
 
 -- ---- the longest sheet
 one_line : (left line : ℕ) (s w : List ℕ) (x : ℕ) (n : NextRead left line s w x) → length (drop n.k s) ≤ 188 * left → length s ≤ 188 * suc left
-one_line left line s w x n h = omega (arith, used_most s n.l n.t n.z n.m n.k n.good, length-drop n.k s)
+one_line left line s w x n h = omega (arith, used_most s n.read n.k n.good, length-drop n.k s)
 
 pub lines_most : (left line : ℕ) (s w : List ℕ) (x : ℕ) → take_lines left line s ≡ words w x → length s ≤ 188 * left
 lines_most zero line s w x e = ⊎_elim (λ h. never 1 257 w x (sym (one_too_many line s h) ∙ e)) (λ h. omega arith) (lt-or-le 0 (length s))
@@ -47,13 +46,13 @@ pub sheet_most : (s : List ℕ) (room : ℕ) → (read_reply s room).number ≡ 
 sheet_most s room h = good_lines_most s (read_puts s) 0 (answered s room h).lines
 
 -- ---- a line is decided by its own bytes
-pub line_longer : (s : List ℕ) (l t : ℕ) (z : Bool) (m k : ℕ) → read_line s ≡ Good l t z m k → (rest : List ℕ) → read_line (s ++ rest) ≡ Good l t z m k
-line_longer s l t z m k e rest =
-    let r = written_read s l t z m k e in
-    ap (λ (x : List ℕ). read_line (x ++ rest)) (read_split s l t z m k e)
-    ∙ ap read_line (append_assoc (written_line z l t m) (drop k s) rest)
-    ∙ read_as z l t m (drop k s ++ rest) r.level r.threshold r.members r.allowed
-    ∙ ap (Good l t z m) (sym (read_used s l t z m k e))
+pub line_longer : (s : List ℕ) (l : Line) (k : ℕ) → read_line s ≡ Some (l, k) → (rest : List ℕ) → read_line (s ++ rest) ≡ Some (l, k)
+line_longer s l k e rest =
+    let r = written_read s l k e in
+    ap (λ (x : List ℕ). read_line (x ++ rest)) (read_split s l k e)
+    ∙ ap read_line (append_assoc (written_line l) (drop k s) rest)
+    ∙ read_as l (drop k s ++ rest) r.level r.allowed r.members
+    ∙ ap (λ (n : ℕ). Some (l, n)) (sym (read_used s l k e))
 
 module _ (s : List ℕ) (n k : ℕ) (h : k ≤ n) where
   cut_split : take n s ≡ take k s ++ take (n - k) (drop k s)
@@ -62,20 +61,19 @@ module _ (s : List ℕ) (n k : ℕ) (h : k ≤ n) where
   pub cut_rest : k ≤ length s → drop k (take n s) ≡ take (n - k) (drop k s)
   cut_rest f = ap (drop k) cut_split ∙ drop_at (take k s) (take (n - k) (drop k s)) k (length-take-le k s f)
 
-  pub line_cut : (l t : ℕ) (z : Bool) (m : ℕ) → read_line s ≡ Good l t z m k → read_line (take n s) ≡ Good l t z m k
-  line_cut l t z m e =
-      let r = written_read s l t z m k e in
+  pub line_cut : (l : Line) → read_line s ≡ Some (l, k) → read_line (take n s) ≡ Some (l, k)
+  line_cut l e =
+      let r = written_read s l k e in
       ap read_line (cut_split ∙ ap (λ (x : List ℕ). x ++ take (n - k) (drop k s)) r.text)
-      ∙ read_as z l t m (take (n - k) (drop k s)) r.level r.threshold r.members r.allowed
-      ∙ ap (Good l t z m) (sym (read_used s l t z m k e))
+      ∙ read_as l (take (n - k) (drop k s)) r.level r.allowed r.members
+      ∙ ap (λ (n : ℕ). Some (l, n)) (sym (read_used s l k e))
 
 -- a malformed line is no better for being cut
-bad_cut : (s : List ℕ) (n : ℕ) → read_line s ≡ Bad → (x : Line) → read_line (take n s) ≡ x → read_line (take n s) ≡ Bad
-bad_cut s n e Bad g = g
-bad_cut s n e (Good l t z m k) g =
-    let a : read_line s ≡ Good l t z m k = ap read_line (sym (take-append-drop n s)) ∙ line_longer (take n s) l t z m k g (drop n s) in
-    let x : ◌≡◌ {A = ℕ} 0 1 = cc in
-    absurd (omega arith)
+bad_cut : (s : List ℕ) (n : ℕ) → read_line s ≡ None → (x : Option (Line × ℕ)) → read_line (take n s) ≡ x → read_line (take n s) ≡ None
+bad_cut s n e None g = g
+bad_cut s n e (Some (l, k)) g =
+    let a : read_line s ≡ Some (l, k) = ap read_line (sym (take-append-drop n s)) ∙ line_longer (take n s) l k g (drop n s) in
+    absurd (cc)
 
 -- ---- so is a sheet
 still-some : (s : List ℕ) (n : ℕ) → 0 < n → 0 < length s → 0 < length (take n s)
@@ -89,19 +87,19 @@ none_cut left line n s h =
 
 by_line : (left line n : ℕ) (s : List ℕ) → 188 * suc left < n → 0 < length s
     → ((n' : ℕ) (s' : List ℕ) → 188 * left < n' → take_lines left (suc line) (take n' s') ≡ take_lines left (suc line) s')
-    → (x : Line) → read_line s ≡ x → take_lines (suc left) line (take n s) ≡ take_lines (suc left) line s
-by_line left line n s h p i Bad e =
+    → (x : Option (Line × ℕ)) → read_line s ≡ x → take_lines (suc left) line (take n s) ≡ take_lines (suc left) line s
+by_line left line n s h p i None e =
     bad_line left line (take n s) (still-some s n (omega arith) p) (bad_cut s n e (read_line (take n s)) refl) ∙ sym (bad_line left line s p e)
-by_line left line n s h p i (Good l t z m k) e =
-    let u = used_most s l t z m k e in
-    let w = line-some s l t z m k e in
+by_line left line n s h p i (Some (l, k)) e =
+    let u = used_most s l k e in
+    let w = line-some s l k e in
     let c : k ≤ n = omega arith in
     let f : 188 * left < n - k = omega arith in
-    let b = before ((t + 256 * l) ∷ m ∷ []) (cond z line 0) in
-    good_line left line (take n s) l t z m k (line_cut s n k c l t z m e)
+    let b = before (two l) (nought_at l line) in
+    good_line left line (take n s) l k (line_cut s n k c l e)
     ∙ ap (λ (x : List ℕ). b (take_lines left (suc line) x)) (cut_rest s n k c w.1)
     ∙ ap b (i (n - k) (drop k s) f)
-    ∙ sym (good_line left line s l t z m k e)
+    ∙ sym (good_line left line s l k e)
 
 pub lines_cut : (left line n : ℕ) (s : List ℕ) → 188 * left < n → take_lines left line (take n s) ≡ take_lines left line s
 lines_cut zero line n s h =

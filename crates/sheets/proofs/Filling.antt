@@ -2,18 +2,19 @@
 -- written stands at the front.
 use Prim.Native.Nat.{ℕ, ◌≤◌, ◌<◌}
 use native.Mathlib.Omega.{arith}
-use mathlib.Core.Path.{◌≡◌, refl, ap, ap₂, sym, ◌∙◌}
+use mathlib.Core.Path.{◌≡◌, refl, ap, ap₂, sym}
 use mathlib.Core.List.{List, [], ◌∷◌}
 use borrow.Author.Tests.{lt-ltb, le-ltb, ne_eqb}
 use lib.ListN.{length, take, length-take}
 use Rattle.decimal.specs.Bytes.{at_front}
 use Rattle.meanings.specs.Faults.{check_lines}
-use Rattle.meanings.specs.Replies.{Reply, Named, reply, ◌is◌, rank, Place, Count, Lent, untouched}
+use Rattle.meanings.specs.Replies.{Reply, reply, ◌is◌, Place, Count, Lent, untouched}
 use Rattle.meanings.specs.Questions.{on_check}
 use Rattle.answers.specs.declared.Fault.{Fault}
-use Rattle.answers.specs.declared.Read.{Read}
-use Rattle.answers.specs.declared.Read.TheVariants as Rx
-use Rattle.answers.specs.Said.{fault_says, read_says}
+use Rattle.std.proofs.Common.{Ok, Err}
+use Rattle.answers.specs.declared.Refusal.{Refusal}
+use Rattle.answers.specs.Said.{fault_says, refusal_says}
+use Rattle.sheets.specs.declared.Lines.{Lines}
 use Rattle.faults.proofs.Laws.{fault_number}
 use Rattle.sheets.specs.Sheets.{Taken, words, stops, on_taken, sheet_lines, room_reply, read_reply, read_puts}
 use Rattle.sheets.specs.Promises.{ReadPromise, Put, Takes}
@@ -35,28 +36,22 @@ module _ (own before : List ℕ) where
   put after h e = rw (le-ltb (length before) (length own) h) (record { answers = refl; holds = e })
 
 -- ---- what taking the lines has found
-abbrev first_rank : List Named → ℕ
-first_rank [] = 0
-first_rank (x ∷ l) = rank x.field
-
-pub taken_words : (x : Taken) (o : List ℕ) (r : Read) (y k : ℕ) → Takes x o r y → r ≡ Rx.Words k → (x ≡ words (take k o) y) × (k ≤ length o)
-taken_words (stops n p) o r y k e h =
-    let z : ◌≡◌ {A = ℕ} 8 0 = ap (λ (a : Reply). first_rank a.names) (sym (ap read_says h) ∙ e) in
-    absurd (omega arith)
-taken_words (words w x) o r y k e h =
-    let a : Rx.Words k ≡ Rx.Words (length w) = sym h ∙ e.0 in
-    let n : k ≡ length w = cc in
-    (ap₂ words (sym (rw n e.1)) (sym e.2), omega (arith, ap length e.1, length-take (length w) o))
+pub taken_words : (x : Taken) (o : List ℕ) (l : Lines) → Takes x o (Ok l) → (x ≡ words (take l.count o) l.nought) × (l.count ≤ length o)
+taken_words (stops n p) o l e = absurd e
+taken_words (words w x) o l e =
+    let a : l ≡ record { count = length w; nought = x } = cc in
+    let n : l.count ≡ length w = ap (λ (y : Lines). y.count) a in
+    (ap₂ words (sym (rw n e.1)) (sym (ap (λ (y : Lines). y.nought) a)), omega (arith, n, ap length e.1, length-take (length w) o))
 
 module _ (s before : List ℕ) where
-  by_lines : (o own : List ℕ) (r : Read) (y : ℕ) (g : List ℕ → ℕ → Reply) → ((k : ℕ) → r ≡ Rx.Words k → ⊥) → (x : Taken) → sheet_lines s ≡ x → Takes x o r y
-      → Lent (read_says r) (on_taken x (λ k p. reply k (Place is p ∷ [])) g) own before before
-  by_lines o own r y g n (stops k p) e t = refused own before (reply k (Place is p ∷ [])) (read_says r) t (sheet_above s k p e)
-  by_lines o own r y g n (words w x) e t = absurd (n (length w) t.0)
+  by_lines : (o own : List ℕ) (e : Refusal) (g : List ℕ → ℕ → Reply) → (x : Taken) → sheet_lines s ≡ x → Takes x o (Err e)
+      → Lent (refusal_says e) (on_taken x (λ k p. reply k (Place is p ∷ [])) g) own before before
+  by_lines o own e g (stops k p) h t = refused own before (reply k (Place is p ∷ [])) (refusal_says e) t (sheet_above s k p h)
+  by_lines o own e g (words w x) h t = let z = t.0 in absurd (cc)
 
-  pub read_stops : (o : List ℕ) (r : Read) (y : ℕ) → Takes (sheet_lines s) o r y → ((k : ℕ) → r ≡ Rx.Words k → ⊥) → ReadPromise s before before r
+  pub read_stops : (o : List ℕ) (e : Refusal) → Takes (sheet_lines s) o (Err e) → ReadPromise s before before (Err e)
   unfolding read_reply
-  read_stops o r y e n = by_lines o (read_puts s) r y (λ w x. on_check (check_lines x w) (room_reply w (length before))) n (sheet_lines s) refl e
+  read_stops o e t = by_lines o (read_puts s) e (λ w x. on_check (check_lines x w) (room_reply w (length before))) (sheet_lines s) refl t
 
   pub read_goes : (w : List ℕ) (x : ℕ) → sheet_lines s ≡ words w x → (after : List ℕ) (said : Reply)
       → Lent said (on_check (check_lines x w) (room_reply w (length before))) w before after → Lent said (read_reply s (length before)) (read_puts s) before after

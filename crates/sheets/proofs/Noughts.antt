@@ -11,6 +11,7 @@ use Rattle.decimal.proofs.Order.{lt-or-le}
 use Rattle.meanings.specs.Table.{records}
 use Rattle.meanings.specs.Faults.{sound, check_lines}
 use Rattle.tables.proofs.Sound.{lines_none}
+use Rattle.lines.specs.Lines.{given, is_nought}
 use Rattle.sheets.specs.Sheets.{words, earlier, take_lines, sheet_lines}
 use Rattle.sheets.proofs.Taking.{one_too_many}
 use Rattle.sheets.proofs.Round.{NextRead, next_read, Ended, ended, never}
@@ -26,7 +27,9 @@ earliest true (suc line) c m rest y h p = omega arith
 earliest false line c m rest y h p = let q = h p in omega arith
 
 one_line : (left line : ℕ) (s w : List ℕ) (x : ℕ) (n : NextRead left line s w x) → Among (suc line) n.rest n.later → Among line w x
-one_line left line s w x n h = rw (n.put, n.first) (earliest n.z line (n.t + 256 * n.l) n.m n.rest n.later h)
+one_line left line s w x n h =
+    let l = n.read in
+    rw (n.put, n.first) (earliest (is_nought l.threshold) line (given l.threshold + 256 * l.level) l.members n.rest n.later h)
 
 none : (line : ℕ) (s w : List ℕ) (x : ℕ) → Ended s w x → Among line w x
 none line s w x e p = absurd (omega (arith, e.no_nought))

@@ -1,8 +1,7 @@
 -- Every fault has a number above 0, so the number 0 is given only where the lines are good, the records sound and the room enough.
-use Prim.Native.Nat.{ℕ, zero, suc, ◌+◌, ◌*◌, ◌≤◌, ◌<◌}
+use Prim.Native.Nat.{ℕ, zero, suc, ◌≤◌, ◌<◌}
 use native.Mathlib.Omega.{arith}
 use mathlib.Core.Path.{◌≡◌, refl, ap, ◌∙◌}
-use mathlib.Core.Bool.{cond}
 use mathlib.Core.Logic.{⊎_elim}
 use mathlib.Core.List.{List, [], ◌∷◌, ◌++◌}
 use borrow.Author.Tests.{lt-ltb}
@@ -15,9 +14,9 @@ use Rattle.tables.proofs.Sound.{lines_sound}
 use Rattle.faults.proofs.Numbers.{Numbered, lines_numbered}
 use Rattle.lines.specs.Lines.{read_line}
 use Rattle.lines.specs.declared.Line.{Line}
-use Rattle.lines.specs.declared.Line.TheVariants.{Good, Bad}
+use Rattle.std.proofs.Common.{Option, Some, None}
 use Rattle.sheets.specs.Sheets.{Taken, words, stops, on_taken, earlier, before, take_lines, sheet_lines, room_reply, read_reply, read_puts}
-use Rattle.sheets.proofs.Taking.{no_more, one_too_many, bad_line, good_line}
+use Rattle.sheets.proofs.Taking.{no_more, one_too_many, bad_line, two, nought_at, good_line}
 use Rattle.sheets.proofs.Noughts.{none_written}
 
 -- ---- the numbers that stop the lines
@@ -34,11 +33,11 @@ before_above : (w : List ℕ) (x : ℕ) (y : Taken) → StopsAbove y → StopsAb
 before_above w x (words v y) h = words_above (w ++ v) (earlier x y)
 before_above w x (stops n q) h = h
 
-by_line : (left line : ℕ) (s : List ℕ) → ((s' : List ℕ) → StopsAbove (take_lines left (suc line) s')) → 0 < length s → (x : Line) → read_line s ≡ x
+by_line : (left line : ℕ) (s : List ℕ) → ((s' : List ℕ) → StopsAbove (take_lines left (suc line) s')) → 0 < length s → (x : Option (Line × ℕ)) → read_line s ≡ x
     → StopsAbove (take_lines (suc left) line s)
-by_line left line s h p Bad e = rw (bad_line left line s p e) (stops_above 12 line (omega arith))
-by_line left line s h p (Good l t z m k) e =
-    rw (good_line left line s l t z m k e) (before_above ((t + 256 * l) ∷ m ∷ []) (cond z line 0) (take_lines left (suc line) (drop k s)) (h (drop k s)))
+by_line left line s h p None e = rw (bad_line left line s p e) (stops_above 12 line (omega arith))
+by_line left line s h p (Some (x, k)) e =
+    rw (good_line left line s x k e) (before_above (two x) (nought_at x line) (take_lines left (suc line) (drop k s)) (h (drop k s)))
 
 none_above : (left line : ℕ) (s : List ℕ) → length s ≤ 0 → StopsAbove (take_lines left line s)
 none_above left line s h = let z : length s ≡ 0 = omega arith in rw (no_more left line s z) (words_above [] 0)

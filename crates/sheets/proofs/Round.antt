@@ -2,8 +2,8 @@
 -- sound table are its records, and none has a written 0.
 use Prim.Native.Nat.{ℕ, zero, suc, ◌+◌, ◌*◌, ◌/◌, ◌%◌, ◌≤◌, ◌<◌}
 use native.Mathlib.Omega.{arith}
-use mathlib.Core.Path.{◌≡◌, refl, ap, sym, ◌∙◌}
-use mathlib.Core.Bool.{Bool, true, false, cond}
+use mathlib.Core.Path.{◌≡◌, refl, ap, ap₂, sym, ◌∙◌}
+use mathlib.Core.Bool.{true, false, cond}
 use mathlib.Core.Logic.{⊎_elim}
 use mathlib.Core.List.{List, [], ◌∷◌, ◌++◌}
 use lib.Pow.{pow_mono}
@@ -14,12 +14,12 @@ use Rattle.meanings.specs.Table.{control, level, threshold, members, records, no
 use Rattle.meanings.specs.Faults.{check, sound}
 use Rattle.tables.proofs.Sound.{sound_table, record_in}
 use Rattle.tables.proofs.Unknown.{unknown_record}
-use Rattle.lines.specs.Lines.{line_text, read_line}
+use Rattle.std.proofs.Common.{Bool, Option, Some, None}
+use Rattle.lines.specs.Lines.{read_line, given, is_nought}
 use Rattle.lines.specs.declared.Line.{Line}
-use Rattle.lines.specs.declared.Line.TheVariants.{Good, Bad}
-use Rattle.lines.proofs.Round.{written_line, line_as, written_read as line_written, read_written as Line_read, read_split}
+use Rattle.lines.proofs.Round.{record_line, line_as, shown, given_shown, written_read as line_written, read_written as Line_read, read_split}
 use Rattle.sheets.specs.Sheets.{Taken, words, stops, earlier, before, take_lines, sheet_lines, sheet_text}
-use Rattle.sheets.proofs.Taking.{no_more, one_too_many, bad_line, good_line}
+use Rattle.sheets.proofs.Taking.{no_more, one_too_many, bad_line, two, nought_at, good_line}
 use Rattle.sheets.proofs.Writing.{text_from, record_text, next_line, no_line, past_end}
 
 pub never : (k p : ℕ) (w : List ℕ) (x : ℕ) {P : Type 0} → stops k p ≡ words w x → P
@@ -31,30 +31,26 @@ nothing (b ∷ s) h = absurd (omega arith)
 
 -- the next line is a record's, and its words and a written 0 stand before those of the lines that follow
 pub record NextRead (left line : ℕ) (s w : List ℕ) (x : ℕ) : Type 0 where
-  pub l : ℕ
-  pub t : ℕ
-  pub z : Bool
-  pub m : ℕ
+  pub read : Line
   pub k : ℕ
   pub rest : List ℕ
   pub later : ℕ
-  pub good : read_line s ≡ Good l t z m k
+  pub good : read_line s ≡ Some (read, k)
   pub lines : take_lines left (suc line) (drop k s) ≡ words rest later
-  pub put : w ≡ (t + 256 * l) ∷ m ∷ rest
-  pub first : x ≡ earlier (cond z line 0) later
+  pub put : w ≡ two read ++ rest
+  pub first : x ≡ earlier (nought_at read line) later
 
 module _ (left line : ℕ) (s w : List ℕ) (x : ℕ) where
-  by_rest : (l t : ℕ) (z : Bool) (m k : ℕ) → read_line s ≡ Good l t z m k → (y : Taken) → take_lines left (suc line) (drop k s) ≡ y
-      → before ((t + 256 * l) ∷ m ∷ []) (cond z line 0) y ≡ words w x → NextRead left line s w x
-  by_rest l t z m k g (stops n p) e r = never n p w x r
-  by_rest l t z m k g (words v y) e r =
-      let a : words ((t + 256 * l) ∷ m ∷ v) (earlier (cond z line 0) y) ≡ words w x = r in
-      record { l = l; t = t; z = z; m = m; k = k; rest = v; later = y; good = g; lines = e; put = cc; first = cc }
+  by_rest : (l : Line) (k : ℕ) → read_line s ≡ Some (l, k) → (y : Taken) → take_lines left (suc line) (drop k s) ≡ y
+      → before (two l) (nought_at l line) y ≡ words w x → NextRead left line s w x
+  by_rest l k g (stops n p) e r = never n p w x r
+  by_rest l k g (words v y) e r =
+      let a : words (two l ++ v) (earlier (nought_at l line) y) ≡ words w x = r in
+      record { read = l; k = k; rest = v; later = y; good = g; lines = e; put = cc; first = cc }
 
-  by_line : take_lines (suc left) line s ≡ words w x → 0 < length s → (y : Line) → read_line s ≡ y → NextRead left line s w x
-  by_line e h Bad g = never 12 line w x (sym (bad_line left line s h g) ∙ e)
-  by_line e h (Good l t z m k) g =
-      by_rest l t z m k g (take_lines left (suc line) (drop k s)) refl (sym (good_line left line s l t z m k g) ∙ e)
+  by_line : take_lines (suc left) line s ≡ words w x → 0 < length s → (y : Option (Line × ℕ)) → read_line s ≡ y → NextRead left line s w x
+  by_line e h None g = never 12 line w x (sym (bad_line left line s h g) ∙ e)
+  by_line e h (Some (l, k)) g = by_rest l k g (take_lines left (suc line) (drop k s)) refl (sym (good_line left line s l k g) ∙ e)
 
   pub next_read : take_lines (suc left) line s ≡ words w x → 0 < length s → NextRead left line s w x
   next_read e h = by_line e h (read_line s) refl
@@ -83,16 +79,16 @@ both_none : (z : Bool) (line y : ℕ) → 0 ≡ earlier (cond z (suc line) 0) y 
 both_none true line y e = absurd (omega arith)
 both_none false line y e = (refl, sym e)
 
-as_written : (s : List ℕ) (l t : ℕ) (z : Bool) (m k : ℕ) → z ≡ false → read_line s ≡ Good l t z m k → s ≡ line_text l t m ++ drop k s
-as_written s l t z m k h e =
-    read_split s l t z m k e ∙ ap (λ (b : Bool). written_line b l t m ++ drop k s) h ∙ ap (λ (u : List ℕ). u ++ drop k s) (line_as l t m)
+as_written : (s : List ℕ) (x : Line) (k : ℕ) → is_nought x.threshold ≡ false → read_line s ≡ Some (x, k) → s ≡ record_line x ++ drop k s
+as_written s x k h e = read_split s x k e ∙ ap (λ (u : List ℕ). u ++ drop k s) (line_as x h)
 
 one_line : (left line : ℕ) (s w : List ℕ) (n : NextRead left (suc line) s w 0) → sheet_text n.rest ≡ drop n.k s → sheet_text w ≡ s
 unfolding sheet_text
 one_line left line s w n e =
-    let h = (line_written s n.l n.t n.z n.m n.k n.good).threshold in
-    let z = (both_none n.z line n.later n.first).0 in
-    rw (n.put, level_back n.l n.t h, threshold_back n.l n.t h, e) (sym (as_written s n.l n.t n.z n.m n.k z n.good))
+    let x = n.read in
+    let h = (line_written s x n.k n.good).threshold in
+    let z = (both_none (is_nought x.threshold) line n.later n.first).0 in
+    rw (n.put, level_back x.level (given x.threshold) h, threshold_back x.level (given x.threshold) h, e) (sym (as_written s x n.k z n.good))
 
 none : (s w : List ℕ) → Ended s w 0 → sheet_text w ≡ s
 unfolding sheet_text
@@ -105,7 +101,7 @@ lines_text (suc left) line s w e =
     ⊎_elim
     (λ h.
     let n = next_read left (suc line) s w 0 e h in
-    let y = (both_none n.z line n.later n.first).1 in
+    let y = (both_none (is_nought n.read.threshold) line n.later n.first).1 in
     one_line left line s w n (lines_text left (suc line) (drop n.k s) n.rest (n.lines ∙ ap (words n.rest) y)))
     (λ h. none s w (ended (suc left) (suc line) s w 0 e h))
     (lt-or-le 0 (length s))
@@ -122,8 +118,12 @@ module _ (t : List ℕ) (e : check t ≡ sound) where
       let c : control t r % 256 + 256 * (control t r / 256) ≡ control t r = omega arith in
       rw (n, c, drop-cons t (2 * r) 0 a, drop-cons t (suc (2 * r)) 0 b)
 
+  -- its line, as it is read
+  abbrev line_of : ℕ → Line
+  line_of r = record { level = level t r; threshold = shown (threshold t r); members = members t r }
+
   good_record : (r : ℕ) (rest : List ℕ) → r < records t
-      → read_line (record_text t r ++ rest) ≡ Good (level t r) (threshold t r) false (members t r) (length (record_text t r))
+      → read_line (record_text t r ++ rest) ≡ Some (line_of r, length (record_text t r))
   unfolding threshold
   good_record r rest h =
       let s = sound_table t e in
@@ -136,10 +136,15 @@ module _ (t : List ℕ) (e : check t ≡ sound) where
       → take_lines (suc left) line (text_from t r) ≡ words (drop (2 * r) t) 0
   one_record left line r h i =
       let l = record_text t r in
+      let g = given_shown (threshold t r) in
+      let w = (threshold t r + 256 * level t r) ∷ members t r ∷ [] in
+      let a : two (line_of r) ≡ w = ap (λ (n : ℕ). (n + 256 * level t r) ∷ members t r ∷ []) g.0 in
+      let b : nought_at (line_of r) line ≡ 0 = ap (λ (z : Bool). cond z line 0) g.1 in
       ap (take_lines (suc left) line) (next_line t r (record_in t r h))
-      ∙ good_line left line (l ++ text_from t (r + 1)) (level t r) (threshold t r) false (members t r) (length l) (good_record r (text_from t (r + 1)) h)
-      ∙ ap (λ (x : List ℕ). before ((threshold t r + 256 * level t r) ∷ members t r ∷ []) 0 (take_lines left (suc line) x)) (drop-append_seam l (text_from t (r + 1)))
-      ∙ ap (before ((threshold t r + 256 * level t r) ∷ members t r ∷ []) 0) i
+      ∙ good_line left line (l ++ text_from t (r + 1)) (line_of r) (length l) (good_record r (text_from t (r + 1)) h)
+      ∙ ap₂ (λ (u : List ℕ) (x : ℕ). before u x (take_lines left (suc line) (drop (length l) (l ++ text_from t (r + 1))))) a b
+      ∙ ap (λ (x : List ℕ). before w 0 (take_lines left (suc line) x)) (drop-append_seam l (text_from t (r + 1)))
+      ∙ ap (before w 0) i
       ∙ ap (λ (w : List ℕ). words w 0) (sym (two_words r h))
 
   no_record : (left line r : ℕ) → records t ≤ r → take_lines left line (text_from t r) ≡ words (drop (2 * r) t) 0

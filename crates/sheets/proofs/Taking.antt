@@ -4,16 +4,16 @@ use Prim.Native.Nat.{ℕ, zero, suc, ◌+◌, ◌-◌, ◌*◌, ◌≤◌, ◌<�
 use native.Mathlib.Omega.{arith}
 use native.Mathlib.Numerals.{add-one}
 use mathlib.Core.Path.{◌≡◌, refl, ap, ap₂, sym, ◌∙◌}
-use mathlib.Core.Bool.{Bool, cond}
+use mathlib.Core.Bool.{cond}
 use mathlib.Core.List.{List, [], ◌∷◌, ◌++◌, append_assoc, append-nil}
 use borrow.Author.Tests.{eq-eqb, ne_eqb}
 use lib.ListN.{length, take, drop, set, length-drop, length-set}
 use lib.Seq.{drop-drop, take-suc-set, length-take-le}
-use Rattle.lines.specs.Lines.{read_line}
-use Rattle.lines.specs.declared.Line.TheVariants.{Good, Bad}
+use Rattle.std.proofs.Common.{Some, None, Ok}
+use Rattle.lines.specs.Lines.{read_line, given, is_nought}
+use Rattle.lines.specs.declared.Line.{Line}
 use Rattle.lines.proofs.Round.{written_read, read_used}
 use Rattle.lines.proofs.Texts.{length_some}
-use Rattle.answers.specs.declared.Read.TheVariants.{Words}
 use Rattle.sheets.specs.Sheets.{Taken, words, stops, earlier, before, take_lines, sheet_lines}
 use Rattle.sheets.specs.Promises.{Takes, with_record}
 
@@ -28,19 +28,26 @@ pub one_too_many : (line : ℕ) (s : List ℕ) → 0 < length s → take_lines 0
 unfolding take_lines
 one_too_many line s h = let n : length s ≡ 0 → ⊥ = λ e. omega arith in rw (ne_eqb (length s) 0 n)
 
-pub bad_line : (left line : ℕ) (s : List ℕ) → 0 < length s → read_line s ≡ Bad → take_lines (suc left) line s ≡ stops 12 line
+pub bad_line : (left line : ℕ) (s : List ℕ) → 0 < length s → read_line s ≡ None → take_lines (suc left) line s ≡ stops 12 line
 unfolding take_lines
 bad_line left line s h e = let n : length s ≡ 0 → ⊥ = λ z. omega arith in rw (ne_eqb (length s) 0 n, e)
 
 -- a good line has a byte
-pub line-some : (s : List ℕ) (l t : ℕ) (z : Bool) (m k : ℕ) → read_line s ≡ Good l t z m k → (0 < k) × (k ≤ length s)
-line-some s l t z m k e = (omega (arith, read_used s l t z m k e, length_some l t m), (written_read s l t z m k e).within)
+pub line-some : (s : List ℕ) (x : Line) (k : ℕ) → read_line s ≡ Some (x, k) → (0 < k) × (k ≤ length s)
+line-some s x k e = (omega (arith, read_used s x k e, length_some x.level (given x.threshold) x.members), (written_read s x k e).within)
 
-pub good_line : (left line : ℕ) (s : List ℕ) (l t : ℕ) (z : Bool) (m k : ℕ) → read_line s ≡ Good l t z m k
-    → take_lines (suc left) line s ≡ before ((t + 256 * l) ∷ m ∷ []) (cond z line 0) (take_lines left (suc line) (drop k s))
+-- the words of a line's record, and the line itself if its threshold is a written 0
+abbrev pub two : Line → List ℕ
+two x = (given x.threshold + 256 * x.level) ∷ x.members ∷ []
+
+abbrev pub nought_at : Line → ℕ → ℕ
+nought_at x line = cond (is_nought x.threshold) line 0
+
+pub good_line : (left line : ℕ) (s : List ℕ) (x : Line) (k : ℕ) → read_line s ≡ Some (x, k)
+    → take_lines (suc left) line s ≡ before (two x) (nought_at x line) (take_lines left (suc line) (drop k s))
 unfolding take_lines
-good_line left line s l t z m k e =
-    let h = line-some s l t z m k e in
+good_line left line s x k e =
+    let h = line-some s x k e in
     let n : length s ≡ 0 → ⊥ = λ z. omega arith in
     rw (ne_eqb (length s) 0 n, e)
 
@@ -82,13 +89,13 @@ abbrev pub TakenUpTo : (s o : List ℕ) (at r x : ℕ) → Type 0
 TakenUpTo s o at r x = sheet_lines s ≡ before (take (2 * r) o) x (take_lines (256 - r) (r + 1) (drop at s))
 
 module _ (s o : List ℕ) (at r x : ℕ) (e : TakenUpTo s o at r x) where
-  pub all_taken : length s ≤ at → 2 * r ≤ length o → Takes (sheet_lines s) o (Words (2 * r)) x
+  pub all_taken : length s ≤ at → 2 * r ≤ length o → Takes (sheet_lines s) o (Ok (record { count = 2 * r; nought = x }))
   all_taken h f =
       let z : length (drop at s) ≡ 0 = omega (arith, length-drop at s) in
       let w : sheet_lines s ≡ words (take (2 * r) o) x =
       e ∙ ap (before (take (2 * r) o) x) (no_more (256 - r) (r + 1) (drop at s) z) ∙ ap₂ words (append-nil (take (2 * r) o)) (earlier-none x) in
       let n : length (take (2 * r) o) ≡ 2 * r = length-take-le (2 * r) o f in
-      rw w (ap Words (sym n), ap (λ (k : ℕ). take k o) n, refl)
+      rw w (ap (λ (k : ℕ). Ok (record { count = k; nought = x })) (sym n), ap (λ (k : ℕ). take k o) n)
 
   -- what stops the lines from `at` on stops them all
   pub stopped : (k p : ℕ) → take_lines (256 - r) (r + 1) (drop at s) ≡ stops k p → sheet_lines s ≡ stops k p
@@ -99,21 +106,20 @@ module _ (s o : List ℕ) (at r x : ℕ) (e : TakenUpTo s o at r x) where
       stopped 1 257
       (ap (λ (n : ℕ). take_lines n (r + 1) (drop at s)) (omega arith) ∙ one_too_many (r + 1) (drop at s) (omega (arith, length-drop at s)))
 
-  pub malformed : at < length s → r < 256 → read_line (drop at s) ≡ Bad → sheet_lines s ≡ stops 12 (r + 1)
+  pub malformed : at < length s → r < 256 → read_line (drop at s) ≡ None → sheet_lines s ≡ stops 12 (r + 1)
   malformed h f b =
       stopped 12 (r + 1)
       (ap (λ (n : ℕ). take_lines n (r + 1) (drop at s)) (one_less r f)
       ∙ bad_line (256 - (r + 1)) (r + 1) (drop at s) (omega (arith, length-drop at s)) b)
 
   -- one more record
-  pub one_more : (l t : ℕ) (z : Bool) (m k : ℕ) → r < 256 → 2 * r + 1 < length o → read_line (drop at s) ≡ Good l t z m k
-      → TakenUpTo s (with_record o r l t m) (at + k) (r + 1) (earlier x (cond z (r + 1) 0))
-  one_more l t z m k f h g =
-      let c = t + 256 * l in
-      let y = cond z (r + 1) 0 in
-      let w : take (2 * (r + 1)) (with_record o r l t m) ≡ take (2 * r) o ++ (c ∷ m ∷ []) = two_words o r l t m h in
+  pub one_more : (l : Line) (k : ℕ) → r < 256 → 2 * r + 1 < length o → read_line (drop at s) ≡ Some (l, k)
+      → TakenUpTo s (with_record o r l.level (given l.threshold) l.members) (at + k) (r + 1) (earlier x (nought_at l (r + 1)))
+  one_more l k f h g =
+      let t = given l.threshold in
+      let w : take (2 * (r + 1)) (with_record o r l.level t l.members) ≡ take (2 * r) o ++ two l = two_words o r l.level t l.members h in
       e
       ∙ ap (λ (n : ℕ). before (take (2 * r) o) x (take_lines n (r + 1) (drop at s))) (one_less r f)
-      ∙ ap (before (take (2 * r) o) x) (good_line (256 - (r + 1)) (r + 1) (drop at s) l t z m k g)
-      ∙ before-before (take (2 * r) o) (c ∷ m ∷ []) x y (take_lines (256 - (r + 1)) (suc (r + 1)) (drop k (drop at s)))
+      ∙ ap (before (take (2 * r) o) x) (good_line (256 - (r + 1)) (r + 1) (drop at s) l k g)
+      ∙ before-before (take (2 * r) o) (two l) x (nought_at l (r + 1)) (take_lines (256 - (r + 1)) (suc (r + 1)) (drop k (drop at s)))
       ∙ rw (← w, drop-drop, add-one (r + 1))

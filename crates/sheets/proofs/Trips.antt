@@ -13,10 +13,8 @@ use Rattle.meanings.specs.Questions.{on_check}
 use Rattle.tables.proofs.Sound.{lines_zero}
 use Rattle.faults.proofs.Numbers.{check_numbered}
 use Rattle.answers.specs.Said.{read_says, wrote_says}
-use Rattle.answers.specs.declared.Read.{Read}
-use Rattle.answers.specs.declared.Read.TheVariants.{Words}
-use Rattle.answers.specs.declared.Wrote.{Wrote}
-use Rattle.answers.specs.declared.Wrote.TheVariants.{Bytes}
+use Rattle.std.proofs.Common.{Result, Ok}
+use Rattle.answers.specs.declared.Refusal.{Refusal}
 use Rattle.answers.proofs.Exact.{read_exact, wrote_exact}
 use Rattle.sheets.specs.Promises.{ReadPromise, WritePromise}
 use Rattle.sheets.specs.Sheets.{words, sheet_lines, sheet_text, room_reply, read_reply, read_puts, write_reply}
@@ -72,42 +70,42 @@ unfolding read_reply
 answer_is s room a = rw (a.lines, lines_zero (read_puts s)) (putting (read_puts s) (read_puts s) room a.records_sound a.room-enough)
 
 -- the words that a reader has put are the words read
-words_put : (s before after : List ℕ) (n : ℕ) → ReadPromise s before after (Words n) → (read_reply s (length before)).number ≡ 0 → take n after ≡ read_puts s
+words_put : (s before after : List ℕ) (n : ℕ) → ReadPromise s before after (Ok n) → (read_reply s (length before)).number ≡ 0 → take n after ≡ read_puts s
 words_put s before after n f z =
     let a = answered s (length before) z in
-    found (read_puts s) before after n (put-zero (read_reply s (length before)) (read_says (Words n)) (read_puts s) before after f z)
+    found (read_puts s) before after n (put-zero (read_reply s (length before)) (read_says (Ok n)) (read_puts s) before after f z)
     (count_of n (length (read_puts s)) (f.answers ∙ answer_is s (length before) a))
 
 -- a sheet that was read is written again from the words read
-pub read_write : (s before after : List ℕ) (n : ℕ) → ReadPromise s before after (Words n) → (d o : List ℕ) (w : Wrote) → length s ≤ length d
-    → WritePromise (take n after) d o w → (w ≡ Bytes (length s)) × (o ≡ at_front s d)
+pub read_write : (s before after : List ℕ) (n : ℕ) → ReadPromise s before after (Ok n) → (d o : List ℕ) (w : Result ℕ Refusal) → length s ≤ length d
+    → WritePromise (take n after) d o w → (w ≡ Ok (length s)) × (o ≡ at_front s d)
 read_write s before after n f d o w h g =
     let z : (read_reply s (length before)).number ≡ 0 = ap (λ (y : Reply). y.number) (sym f.answers) in
     let t = read_then_written s (length before) z in
     let k : WritePromise (read_puts s) d o w = rw (words_put s before after n f z) at g in
     let a : write_reply (read_puts s) (length d) ≡ reply 0 (Count is length s ∷ []) = t.says (length d) h in
     let b = put-zero (write_reply (read_puts s) (length d)) (wrote_says w) (sheet_text (read_puts s)) d o k (ap (λ (y : Reply). y.number) a) in
-    (wrote_exact w (Bytes (length s)) (k.answers ∙ a), b ∙ ap (λ (x : List ℕ). at_front x d) t.bytes)
+    (wrote_exact w (Ok (length s)) (k.answers ∙ a), b ∙ ap (λ (x : List ℕ). at_front x d) t.bytes)
 
 -- the bytes that a writer has put are the text of a sound table
-bytes_put : (t before after : List ℕ) (n : ℕ) → WritePromise t before after (Bytes n) → (check t ≡ sound) × (take n after ≡ sheet_text t)
+bytes_put : (t before after : List ℕ) (n : ℕ) → WritePromise t before after (Ok n) → (check t ≡ sound) × (take n after ≡ sheet_text t)
 unfolding write_reply
 bytes_put t before after n f =
     let z : (write_reply t (length before)).number ≡ 0 = ap (λ (y : Reply). y.number) (sym f.answers) in
     let c = check-zero (sheet_text t) (length before) (check t) (check_numbered t) z in
     let a = putting t (sheet_text t) (length before) c.0 c.1 in (
       c.0,
-      found (sheet_text t) before after n (put-zero (write_reply t (length before)) (wrote_says (Bytes n)) (sheet_text t) before after f z)
+      found (sheet_text t) before after n (put-zero (write_reply t (length before)) (wrote_says (Ok n)) (sheet_text t) before after f z)
           (count_of n (length (sheet_text t)) (f.answers ∙ a)),
     )
 
 -- a table that was written is read again from the bytes written
-pub write_read : (t before after : List ℕ) (n : ℕ) → WritePromise t before after (Bytes n) → (b a : List ℕ) (r : Read) → length t ≤ length b
-    → ReadPromise (take n after) b a r → (r ≡ Words (length t)) × (a ≡ at_front t b)
+pub write_read : (t before after : List ℕ) (n : ℕ) → WritePromise t before after (Ok n) → (b a : List ℕ) (r : Result ℕ Refusal) → length t ≤ length b
+    → ReadPromise (take n after) b a r → (r ≡ Ok (length t)) × (a ≡ at_front t b)
 write_read t before after n f b a r h g =
     let p = bytes_put t before after n f in
     let x = written_then_read t p.0 in
     let k : ReadPromise (sheet_text t) b a r = rw p.1 at g in
     let e : read_reply (sheet_text t) (length b) ≡ reply 0 (Count is length t ∷ []) = x.says (length b) h in
     let y = put-zero (read_reply (sheet_text t) (length b)) (read_says r) (read_puts (sheet_text t)) b a k (ap (λ (q : Reply). q.number) e) in
-    (read_exact r (Words (length t)) (k.answers ∙ e), y ∙ ap (λ (q : List ℕ). at_front q b) x.list)
+    (read_exact r (Ok (length t)) (k.answers ∙ e), y ∙ ap (λ (q : List ℕ). at_front q b) x.list)

@@ -1,11 +1,10 @@
 -- SPECIFICATION 2 and 7: the text of a table, and what a sheet's lines come to.
-use Rattle.std.specs.Prelude.{ℕ, zero, suc, ◌+◌, ◌*◌, ◌/◌, ◌%◌, Bool, cond, List, [], ◌∷◌, ◌++◌, eqb, length, drop}
+use Rattle.std.specs.Prelude.{ℕ, zero, suc, ◌+◌, ◌*◌, ◌/◌, ◌%◌, cond, List, [], ◌∷◌, ◌++◌, eqb, length, drop}
 use Rattle.meanings.specs.Faults.{check, check_lines}
 use Rattle.meanings.specs.Replies.{Reply, reply, ◌is◌, Place, Count}
 use Rattle.meanings.specs.Questions.{on_check, in_room}
-use Rattle.lines.specs.Lines.{line_text, read_line}
-use Rattle.lines.specs.declared.Line.{Line}
-use Rattle.lines.specs.declared.Line.TheVariants.{Good, Bad}
+use Rattle.decimal.specs.Decimal.{on_read}
+use Rattle.lines.specs.Lines.{line_text, read_line, given, is_nought}
 
 -- One record a line, each line ended by LF. A record is its control word, threshold + 256 x level, and its members.
 unfoldable pub sheet_text : List ℕ → List ℕ
@@ -33,20 +32,15 @@ abbrev pub before : List ℕ → ℕ → Taken → Taken
 before w x (words v y) = words (w ++ v) (earlier x y)
 before w x (stops k p) = stops k p
 
--- by cases on a line that was read
-abbrev pub on_line : {A : Type 0} → Line → A → (ℕ → ℕ → Bool → ℕ → ℕ → A) → A
-on_line Bad b f = b
-on_line (Good level threshold nought members used) b f = f level threshold nought members used
-
 -- The lines of s are taken in turn, each from where the one before ended, and the first fault decides: a malformed line gives 12,
 -- and any byte where no line is left to take gives 1. The next line is counted `line`.
 unfoldable pub take_lines : (left line : ℕ) → List ℕ → Taken
 take_lines zero line s = cond (eqb (length s) 0) (words [] 0) (stops 1 257)
 take_lines (suc left) line s =
     cond (eqb (length s) 0) (words [] 0)
-    (on_line (read_line s) (stops 12 line)
-    (λ level threshold nought members used.
-    before ((threshold + 256 * level) ∷ members ∷ []) (cond nought line 0) (take_lines left (suc line) (drop used s))))
+    (on_read (read_line s) (stops 12 line)
+    (λ x used.
+    before ((given x.threshold + 256 * x.level) ∷ x.members ∷ []) (cond (is_nought x.threshold) line 0) (take_lines left (suc line) (drop used s))))
 
 -- a sheet has at most 256 lines, counted from 1
 unfoldable pub sheet_lines : List ℕ → Taken

@@ -4,180 +4,137 @@
 
 ghost use Rattle.std.specs.Prelude.{◌≡◌, cond, ◌+◌, ◌*◌, ◌<◌, ◌≤◌, length};
 ghost use Rattle.decimal.specs.Bytes.{at_front};
-ghost use Rattle.meanings.specs.Faults.{check, sound};
 ghost use Rattle.answers.specs.Said.{read_says, wrote_says};
+ghost use Rattle.lines.specs.Lines.{given, is_nought};
 ghost use Rattle.sheets.specs.Sheets.{earlier, sheet_text, sheet_lines};
 ghost use Rattle.sheets.specs.Promises.{ReadPromise, WritePromise, Put, Takes, with_record};
 
-use answers::{Checked, Fault, Read, Wrote};
+use answers::{Fault, Refusal};
 use lines::Line;
+use tables::Table;
 
-// What the lines of a sheet come to, and the first whose threshold is a written 0; 0 where there is none.
+// What the lines of a good sheet come to: how many words, and the first line whose threshold is a written 0; 0 where there is none.
+// No `Option`: 0 is what the definitions have for none (`Sheets.Taken`, `Faults.check_lines`).
 #[derive(Clone, Copy)]
-struct Lines {
-    read: Read,
-    nought: u64,
+pub struct Lines {
+    pub count: u64,
+    pub nought: u64,
 }
 
 // The first line whose threshold is a written 0: one of those before, or else this line, where it has one.
-pub fn first_nought(before: u64, here: bool, line: u64) -> u64
-    ensures { result ≡ earlier before (cond here line 0) }
+pub fn first_nought(before: u64, threshold: Option<u64>, line: u64) -> u64
+    ensures { result ≡ earlier before (cond (is_nought threshold) line 0) }
 {
-    if before != 0 {
-        return before;
+    if before == 0 && threshold == Some(0) {
+        return line;
     }
-    if here { line } else { 0 }
+    before
 }
 
 // The record of a line goes into the words, behind those of the r lines before it.
-pub fn put_record(words: &mut [u64], r: u64, level: u64, threshold: u64, members: u64)
-    requires { (2 * r + 1 < length words.old) × (level ≤ 3) × (threshold ≤ 255) }
-    ensures { words.new ≡ with_record words.old r level threshold members }
+pub fn put_record(words: &mut [u64], r: u64, line: Line)
+    requires { (2 * r + 1 < length words.old) × (line.level ≤ 3) × (given line.threshold ≤ 255) }
+    ensures { words.new ≡ with_record words.old r line.level (given line.threshold) line.members }
 {
     let at = 2 * r as usize;
-    words[at] = threshold + 256 * level;
-    words[at + 1] = members;
+    words[at] = line.threshold.unwrap_or(0) + 256 * line.level;
+    words[at + 1] = line.members;
 }
 
 // The lines of a sheet in turn, each from where the one before ended: their records go into the words, two a record, unless a line
 // is malformed or stands where none is left to take.
-fn take_lines(sheet: &[u8], words: &mut [u64]) -> Lines
+fn take_lines(sheet: &[u8], words: &mut [u64]) -> Result<Lines, Refusal>
     requires { length words.old ≡ 512 }
-    ensures { Takes (sheet_lines sheet.now) words.new result.read result.nought }
+    ensures { Takes (sheet_lines sheet.now) words.new result }
 {
     let mut at = 0;
-    let mut r = 0;
     let mut nought = 0;
-    while at < sheet.len() {
-        if r == 256 {
-            let read = Read::Bad(Fault::Count(257));
-            return Lines { read, nought };
+    for r in 0..256 {
+        if at == sheet.len() {
+            return Ok(Lines {
+                count: 2 * r,
+                nought,
+            });
         }
-        let Line::Good {
-            level,
-            threshold,
-            nought: here,
-            members,
-            used,
-        } = lines::line_at(sheet, at)
-        else {
-            let read = Read::Malformed { line: r + 1 };
-            return Lines { read, nought };
+        let Some((line, used)) = lines::line_at(sheet, at) else {
+            return Err(Refusal::Malformed { line: r + 1 });
         };
-        put_record(words, r, level, threshold, members);
-        nought = first_nought(nought, here, r + 1);
+        put_record(words, r, line);
+        nought = first_nought(nought, line.threshold, r + 1);
         at += used;
-        r += 1;
     }
-    let read = Read::Words { count: 2 * r };
-    Lines { read, nought }
-}
-
-// The words at the front of the table.
-fn put_words(words: &[u64], table: &mut [u64])
-    requires { length words.now ≤ length table.old }
-    ensures { table.new ≡ at_front words.now table.old }
-{
-    let mut i = 0;
-    while i < words.len() {
-        table[i] = words[i];
-        i += 1;
+    if at < sheet.len() {
+        return Err(Refusal::Bad(Fault::Count(257)));
     }
+    Ok(Lines { count: 512, nought })
 }
 
 // The words into the table, if it has room for them.
-fn fill_table(words: &[u64], table: &mut [u64]) -> Read
+fn fill_table(words: &[u64], table: &mut [u64]) -> Result<u64, Refusal>
     ensures { Put words.now table.old table.new (read_says result) }
 {
     let count = words.len() as u64;
     if table.len() < words.len() {
-        return Read::Short { count };
+        return Err(Refusal::Short { count });
     }
-    put_words(words, table);
-    Read::Words { count }
+    table[..words.len()].copy_from_slice(words);
+    Ok(count)
 }
 
 // The lines are taken first, then their records are checked, and only a sound table is copied to the caller's.
-pub fn read_sheet(sheet: &[u8], table: &mut [u64]) -> Read
+pub fn read_sheet(sheet: &[u8], table: &mut [u64]) -> Result<u64, Refusal>
     ensures { ReadPromise sheet.now table.old table.new result }
 {
+    // No heap: room for the words of 256 lines, and a count beside it.
     let mut words = [0u64; 512];
-    let taken = take_lines(sheet, &mut words);
-    let read = taken.read;
-    let Read::Words { count } = read else {
-        return read;
-    };
+    let Lines { count, nought } = take_lines(sheet, &mut words)?;
     let k = count as usize;
-    let checked = faults::check_lines(&words[..k], taken.nought);
-    let Checked::Sound {
-        nodes: _,
-        records: _,
-    } = checked
-    else {
-        return Read::Bad(faults::fault_of(checked));
-    };
+    faults::check_lines(&words[..k], nought)?;
     fill_table(&words[..k], table)
 }
 
 // How many bytes the text of a table takes.
-fn sheet_len(table: &[u64]) -> usize
-    requires { check table.now ≡ sound }
+fn sheet_len(table: &Table) -> usize
     ensures { result ≡ length (sheet_text table.now) }
 {
     let mut need = 0;
-    let mut r = 0;
-    while r < table.len() / 2 {
-        need += lines::line_len(
-            tables::level(table, r),
-            tables::threshold(table, r),
-            tables::members(table, r),
-        );
-        r += 1;
+    for r in 0..table.records() {
+        need += lines::line_len(table.level(r), table.threshold(r), table.members(r));
     }
     need
 }
 
 // The text of a table at the front of the sheet, each line into what is left of it.
-fn put_lines(table: &[u64], sheet: &mut [u8])
-    requires { (check table.now ≡ sound) × (length (sheet_text table.now) ≤ length sheet.old) }
+fn put_lines(table: &Table, sheet: &mut [u8])
+    requires { length (sheet_text table.now) ≤ length sheet.old }
     ensures { sheet.new ≡ at_front (sheet_text table.now) sheet.old }
 {
     let mut at = 0;
-    let mut line = 0;
-    while line < table.len() / 2 {
-        let level = tables::level(table, line);
-        let threshold = tables::threshold(table, line);
-        let members = tables::members(table, line);
+    for r in 0..table.records() {
+        let level = table.level(r);
+        let threshold = table.threshold(r);
+        let members = table.members(r);
         at += lines::put_line(&mut sheet[at..], level, threshold, members);
-        line += 1;
     }
 }
 
 // The text of a sound table into the sheet, if it has room for it.
-fn fill_sheet(table: &[u64], sheet: &mut [u8]) -> Wrote
-    requires { check table.now ≡ sound }
+fn fill_sheet(table: &Table, sheet: &mut [u8]) -> Result<u64, Refusal>
     ensures { Put (sheet_text table.now) sheet.old sheet.new (wrote_says result) }
 {
     let need = sheet_len(table);
     let count = need as u64;
     if sheet.len() < need {
-        return Wrote::Short { count };
+        return Err(Refusal::Short { count });
     }
     put_lines(table, sheet);
-    Wrote::Bytes { count }
+    Ok(count)
 }
 
 // The table is checked first, and only a sound one is written.
-pub fn write_sheet(table: &[u64], sheet: &mut [u8]) -> Wrote
+pub fn write_sheet(table: &[u64], sheet: &mut [u8]) -> Result<u64, Refusal>
     ensures { WritePromise table.now sheet.old sheet.new result }
 {
-    let checked = faults::check_table(table);
-    let Checked::Sound {
-        nodes: _,
-        records: _,
-    } = checked
-    else {
-        return Wrote::Bad(faults::fault_of(checked));
-    };
-    fill_sheet(table, sheet)
+    let table = faults::sound_table(table)?;
+    fill_sheet(&table, sheet)
 }

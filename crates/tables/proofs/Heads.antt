@@ -15,7 +15,7 @@ use Rattle.sets.proofs.Size.{le-or-lt}
 use Rattle.sets.specs.Lists.{keep, cons_if, from}
 use Rattle.meanings.specs.Table.{records, level, heads, nodes, head_of}
 use Rattle.tables.specs.Run.{bump}
-use Rattle.tables.specs.Heads.{is_head, heads_in, heads_before, HeadsTo, Headed}
+use Rattle.tables.specs.Heads.{is_head, heads_in, heads_before, HeadsTo}
 use Rattle.tables.proofs.Lists.{keep_split, keep_last, keep_at, Picked}
 
 pub before_first : (t : List ℕ) → heads_before t 0 ≡ 0
@@ -97,6 +97,6 @@ one_head t found v r l h e n H w q =
     (λ (p : w < v). get_or-set_other found v w r 0 (λ c. omega arith) ∙ H w p)
     (le-or-lt v w)
 
--- the record found for a node is one of the table
-pub head_in : {t heads : List ℕ} → Headed t heads → (v : ℕ) → v < nodes t → get_or heads v 0 < records t
-head_in {t} H v l = subst (λ (r : ℕ). r < records t) (sym (H.found v l)) (head_of-lt t v l)
+-- the record that a list has for a node is one of the table
+pub head_in : (t found : List ℕ) → HeadsTo t found (nodes t) → (v : ℕ) → v < nodes t → get_or found v 0 < records t
+head_in t found H v l = subst (λ (r : ℕ). r < records t) (sym (H v l)) (head_of-lt t v l)

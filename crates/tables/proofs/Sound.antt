@@ -216,6 +216,10 @@ sound_table t e =
       at = λ r l. sound_record t r (s r l) (f r l);
     }
 
+-- the number of a node goes into a word's bits
+pub node_lt : (t : List ℕ) → check t ≡ sound → (v : ℕ) → v < nodes t → v < 64
+node_lt t e v l = let few = (sound_table t e).nodes-le in omega arith
+
 -- ---- the records of a sheet's lines: a written 0 is a fault more, at its record alone
 module _ (t : List ℕ) where
   none_written : (r : ℕ) → line_fault 0 t r ≡ shape_fault t r

@@ -1,7 +1,7 @@
 -- The records at level 0, which open the nodes, among some of the records.
-use Rattle.std.specs.Prelude.{◌≡◌, Bool, List, ℕ, ◌<◌, ◌≤◌, eqb, length, get_or}
+use Rattle.std.specs.Prelude.{◌≡◌, Bool, List, ℕ, ◌<◌, eqb, length, get_or}
 use Rattle.sets.specs.Lists.{keep, from}
-use Rattle.meanings.specs.Table.{level, nodes, head_of}
+use Rattle.meanings.specs.Table.{level, head_of}
 use Rattle.meanings.specs.Faults.{check, sound}
 
 -- whether a record opens a node; which of the n records from a on do, and how many of those before record r
@@ -18,8 +18,7 @@ heads_before t r = length (heads_in t 0 r)
 abbrev pub HeadsTo : List ℕ → List ℕ → ℕ → Type 0
 HeadsTo t found n = (v : ℕ) → v < n → get_or found v 0 ≡ head_of t v
 
--- The table is sound, and such a list has the records of all its nodes.
-pub record Headed (t heads : List ℕ) : Type 0 where
+-- What is read of a sound table: the table is sound, and what is told of it.
+pub record Reads (t : List ℕ) (told : Type 0) : Type 0 where
   pub checked : check t ≡ sound
-  pub fits : nodes t ≤ length heads
-  pub found : HeadsTo t heads (nodes t)
+  pub reads : told

@@ -7,6 +7,7 @@ use mathlib.Core.List.{List, [], ◌∷◌}
 use mathlib.Core.Logic.{⊎_elim}
 use Prim.Native.Nat.{ℕ, suc, ◌^◌, ◌≤◌, ◌<◌}
 use native.Mathlib.Omega.{arith}
+use Rattle.std.specs.Prelude.{Result, Ok, Err}
 use Rattle.sets.specs.Sets.{everyone, size, within}
 use Rattle.sets.proofs.Bools.{clash}
 use Rattle.sets.proofs.Size.{le-or-lt}
@@ -20,8 +21,10 @@ use Rattle.theory.proofs.Verdict.{Decided, all_meet, two_apart, decided, sound_d
 use Rattle.faults.proofs.Numbers.{Further, Opened, opened, past_opening, in_allowance_lem, over_allowance, OnlyNine, larger_says, after_check, after_nodes}
 use Rattle.satisfaction.proofs.Monotone.{satisfied_monotone}
 use Rattle.answers.specs.Said.{verdict_says}
+use Rattle.answers.specs.declared.Refusal.{Refusal}
+use Rattle.answers.specs.declared.Refusal.TheVariants.{Spent, Unsplit}
 use Rattle.answers.specs.declared.Verdict.{Verdict}
-use Rattle.answers.specs.declared.Verdict.TheVariants.{Yes, No, Spent, Unsplit}
+use Rattle.answers.specs.declared.Verdict.TheVariants.{Yes, No}
 use Rattle.answers.proofs.Exact.{verdict_exact}
 use Rattle.verdict.specs.Promise.{VerdictPromise}
 use Rattle.verdict.proofs.Allowance.{count}
@@ -191,46 +194,46 @@ module _ (t : List ℕ) (d : ℕ) where
   pub answer_stays : (a b : ℕ) → a ≤ b → (verdict_reply t d a).number ≡ 0 → verdict_reply t d b ≡ verdict_reply t d a
   answer_stays a b l e = larger_allowance a b l (λ z. omega arith)
 
--- ---- of any answer that fits the promise; it says number 0 where it is Yes or No
-module _ (t : List ℕ) (d allowance : ℕ) (r : Verdict) (p : VerdictPromise t d allowance r) where
+-- ---- of any answer that fits the promise; it says number 0 where it is a verdict
+module _ (t : List ℕ) (d allowance : ℕ) (r : Result Verdict Refusal) (p : VerdictPromise t d allowance r) where
   same_number : (verdict_says r).number ≡ (verdict_reply t d allowance).number
   same_number = ap number_of p.told
 
   pub yes_fits : (verdict_says r).number ≡ 0
-      → ((k : ℕ) → r ≡ Yes k → intersecting (nodes t) (satisfied t) d ≡ true) × (intersecting (nodes t) (satisfied t) d ≡ true → r ≡ Yes (visits_of t d))
+      → ((k : ℕ) → r ≡ Ok (Yes k) → intersecting (nodes t) (satisfied t) d ≡ true) × (intersecting (nodes t) (satisfied t) d ≡ true → r ≡ Ok (Yes (visits_of t d)))
   yes_fits e = (p.yes_means, λ i. go i (number_0 t d allowance (sym same_number ∙ e)).1)
     where
-      go : intersecting (nodes t) (satisfied t) d ≡ true → Meant t d (verdict_reply t d allowance) → r ≡ Yes (visits_of t d)
-      go i (yes j f) = verdict_exact r (Yes (visits_of t d)) (p.told ∙ f)
+      go : intersecting (nodes t) (satisfied t) d ≡ true → Meant t d (verdict_reply t d allowance) → r ≡ Ok (Yes (visits_of t d))
+      go i (yes j f) = verdict_exact r (Ok (Yes (visits_of t d))) (p.told ∙ f)
       go i (no a b z j f) = clash (intersecting (nodes t) (satisfied t) d) i j
 
   pub no_fits : (verdict_says r).number ≡ 0 → intersecting (nodes t) (satisfied t) d ≡ false
-      → (a b : ℕ) × (r ≡ No a b (visits_of t d)) × (disjoint_quorums (nodes t) (satisfied t) d a b ≡ true)
+      → (a b : ℕ) × (r ≡ Ok (No a b (visits_of t d))) × (disjoint_quorums (nodes t) (satisfied t) d a b ≡ true)
   no_fits e i = go (number_0 t d allowance (sym same_number ∙ e)).1
     where
-      go : Meant t d (verdict_reply t d allowance) → (a b : ℕ) × (r ≡ No a b (visits_of t d)) × (disjoint_quorums (nodes t) (satisfied t) d a b ≡ true)
+      go : Meant t d (verdict_reply t d allowance) → (a b : ℕ) × (r ≡ Ok (No a b (visits_of t d))) × (disjoint_quorums (nodes t) (satisfied t) d a b ≡ true)
       go (yes j f) = clash (intersecting (nodes t) (satisfied t) d) j i
-      go (no a b z j f) = (a, b, verdict_exact r (No a b (visits_of t d)) (p.told ∙ f), z)
+      go (no a b z j f) = (a, b, verdict_exact r (Ok (No a b (visits_of t d))) (p.told ∙ f), z)
 
-  pub spent_only : (k : ℕ) → r ≡ Spent k → Asked t d × (allowance < visits_of t d) × (k ≡ allowance)
+  pub spent_only : (k : ℕ) → r ≡ Err (Spent k) → Asked t d × (allowance < visits_of t d) × (k ≡ allowance)
   spent_only k e =
       let f : reply 9 (Visits is k ∷ []) ≡ verdict_reply t d allowance = sym (ap verdict_says e) ∙ p.told in
       let w = nine_only t d allowance (sym (ap number_of f)) in
       (w.0, w.1, ap (λ (x : Reply). value x Visits) f ∙ w.2)
 
-  pub spent_whenever : Asked t d → allowance < visits_of t d → r ≡ Spent allowance
+  pub spent_whenever : Asked t d → allowance < visits_of t d → r ≡ Err (Spent allowance)
   spent_whenever a l = go (outcome t d allowance a)
     where
-      go : Outcome t d allowance (verdict_reply t d allowance) → r ≡ Spent allowance
-      go (stopped k f) = verdict_exact r (Spent allowance) (p.told ∙ f)
+      go : Outcome t d allowance (verdict_reply t d allowance) → r ≡ Err (Spent allowance)
+      go (stopped k f) = verdict_exact r (Err (Spent allowance)) (p.told ∙ f)
       go (answered k m) = absurd (omega arith)
 
   pub enough_fits : Asked t d → bound t d ≤ suc allowance → (verdict_says r).number ≡ 0
   enough_fits a l = same_number ∙ enough_answers t d allowance a l
 
-  pub never_unsplit : ¬ (r ≡ Unsplit)
-  never_unsplit e = never_thirteen t d allowance (sym same_number ∙ ap (λ (v : Verdict). (verdict_says v).number) e)
+  pub never_unsplit : ¬ (r ≡ Err Unsplit)
+  never_unsplit e = never_thirteen t d allowance (sym same_number ∙ ap (λ (v : Result Verdict Refusal). (verdict_says v).number) e)
 
-pub larger_fits : (t : List ℕ) (d a b : ℕ) (x y : Verdict) → VerdictPromise t d a x → VerdictPromise t d b y → a ≤ b → ¬ ((verdict_says x).number ≡ 9) → y ≡ x
+pub larger_fits : (t : List ℕ) (d a b : ℕ) (x y : Result Verdict Refusal) → VerdictPromise t d a x → VerdictPromise t d b y → a ≤ b → ¬ ((verdict_says x).number ≡ 9) → y ≡ x
 larger_fits t d a b x y p q l h =
     verdict_exact y x (q.told ∙ larger_allowance t d a b l (λ z. h (ap number_of p.told ∙ z)) ∙ sym p.told)

@@ -7,15 +7,22 @@ use native.Mathlib.Omega.{arith}
 use borrow.Author.Tests.{lt-ltb, le-ltb}
 use Rattle.sets.specs.Sets.{nobody, only, ◌∪◌, ◌∖◌, size, lowest}
 use Rattle.sets.proofs.Bools.{fails}
+use Rattle.sets.proofs.Members.{Sub, ∖-lt, ∖_out}
 use Rattle.sets.proofs.Size.{size_at}
 use Rattle.sets.proofs.Lowest.{lowest_at}
 use Rattle.meanings.specs.Table.{nodes, satisfied}
 use Rattle.meanings.specs.Quorums.{whole_ground, quorum, greatest, holds_quorum}
 use Rattle.meanings.specs.Trees.{hit, missed, stuck, found_if, over_half, pair_at, walk, then_walk}
+use Rattle.theory.proofs.Quorum.{ground-lt}
 use Rattle.theory.proofs.Greatest.{greatest-holds, holds-greatest}
 use Rattle.theory.proofs.QuorumTree.{choices, chosen, below, choices_lt, below_lt, fewer, tree_pruned, tree_dry, tree_quorum, tree_unsplit, tree_parts}
+use Rattle.greatest.specs.Greatest.{holding, Due}
+use Rattle.greatest.proofs.Laws.{holding-nobody}
+use Rattle.quorum_visits.specs.declared.Visit.{Visit}
 use Rattle.quorum_visits.specs.Visits.{dry}
-use Rattle.verdict.specs.Search.{tree_of}
+use Rattle.verdict.specs.declared.Question.{Question}
+use Rattle.verdict.specs.Search.{Visiting, tree_of}
+use Rattle.verdict.proofs.Root.{ground_due}
 
 module _ (t : List ℕ) (d c r : ℕ) where
   abbrev n : ℕ
@@ -95,3 +102,29 @@ module _ (t : List ℕ) (d c r : ℕ) where
               let x = size_at n b (subst (λ (x : ℕ). x < 2 ^ n) (sym b_is) (below_lt n s d c r)) 64 n64 in
               let y = size_at n r hr 64 n64 in
               omega arith
+
+-- ---- the tests of a visit
+module _ {t : List ℕ} {q : Question} {a : Visit} (V : Visiting t q a) where
+  half_whole : q.half ≡ size (nodes t) (whole_ground (nodes t) q.d) / 2
+  half_whole = V.half_is ∙ ap (λ (x : ℕ). size (nodes t) x / 2) V.ground_is
+
+  module _ {count : ℕ} (e : count ≡ size 64 a.c) where
+    pub pruned : q.half < count → walk (tree_of t q.d a.c a.r) ≡ missed 1
+    pruned l = over_half_lem t q.d a.c a.r (over t q.d a.c a.r count e V.stands.waiting.below V.small q.half half_whole l)
+
+    pub few_chosen : count ≤ q.half → over_half (nodes t) (satisfied t) q.d a.c ≡ false
+    few_chosen l = not_over t q.d a.c a.r count e V.stands.waiting.below V.small q.half half_whole l
+
+  -- the greatest quorum outside the chosen nodes
+  module _ {rest : ℕ} (e : rest ≡ q.ground ∖ a.c) where
+    pub rest_due : Due t q.d rest rest nobody
+    rest_due =
+        ground_due t q.d q.ground rest V.ground_is
+        (subst (λ (x : ℕ). x < 2 ^ nodes t) (sym e)
+        (∖-lt (nodes t) q.ground a.c (subst (λ (x : ℕ). x < 2 ^ nodes t) (sym V.ground_is) (ground-lt (nodes t) q.d))))
+        (subst (λ (x : ℕ). Sub x q.ground) (sym e) (λ i p. (∖_out q.ground a.c i p).0))
+
+    pub outside : {h : ℕ} → h ≡ holding nobody (greatest (nodes t) (satisfied t) q.d rest) → h ≡ greatest (nodes t) (satisfied t) q.d (whole_ground (nodes t) q.d ∖ a.c)
+    outside f =
+        f ∙ sym (holding-nobody (greatest (nodes t) (satisfied t) q.d rest))
+        ∙ ap (greatest (nodes t) (satisfied t) q.d) (e ∙ ap (λ (x : ℕ). x ∖ a.c) V.ground_is)

@@ -5,10 +5,10 @@ use mathlib.Core.Bool.{Bool, true, false}
 use mathlib.Core.List.{List}
 use Prim.Native.Nat.{ℕ, suc, ◌^◌, ◌≤◌, ◌<◌}
 use native.Mathlib.Nat.{zero-add}
-use native.Mathlib.Omega.{arith}
 use mathlib.Core.Logic.{⊎_elim}
 use Rattle.sets.proofs.Size.{le-or-lt}
 use borrow.Author.Tests.{le-leb, lt-leb}
+use Rattle.std.specs.Prelude.{Result, Ok, Err}
 use Rattle.sets.specs.Sets.{size}
 use Rattle.meanings.specs.Table.{nodes, satisfied}
 use Rattle.meanings.specs.Quorums.{whole_ground, intersecting, disjoint_quorums}
@@ -16,20 +16,21 @@ use Rattle.meanings.specs.Trees.{Pair, Walk, hit, missed, stuck, verdict_tree, w
 use Rattle.meanings.specs.Questions.{verdict_reply, verdict_says as reply_says}
 use Rattle.theory.proofs.Verdict.{Decided, all_meet, two_apart, decided, sound_disjoint}
 use Rattle.satisfaction.proofs.Monotone.{satisfied_monotone}
-use Rattle.answers.specs.Said.{verdict_says}
-use Rattle.answers.specs.declared.Fault.{Fault}
+use Rattle.answers.specs.Said.{refusal_says, verdict_says}
+use Rattle.answers.specs.declared.Refusal.{Refusal}
+use Rattle.answers.specs.declared.Refusal.TheVariants.{Spent, Unsplit}
 use Rattle.answers.specs.declared.Verdict.{Verdict}
-use Rattle.answers.specs.declared.Verdict.TheVariants.{Yes, No, Spent, Unsplit, Outside, Bad}
+use Rattle.answers.specs.declared.Verdict.TheVariants.{Yes, No}
 use Rattle.answers.proofs.Exact.{verdict_exact}
 use Rattle.verdict.specs.Search.{within}
 use Rattle.verdict.specs.Promise.{VerdictPromise}
 use Rattle.verdict.proofs.Allowance.{count}
 
 -- the answer without an allowance
-abbrev pub plain : Walk Pair → Verdict
-plain (missed k) = Yes k
-plain (hit p k) = No p.first p.second k
-plain (stuck k) = Unsplit
+abbrev pub plain : Walk Pair → Result Verdict Refusal
+plain (missed k) = Ok (Yes k)
+plain (hit p k) = Ok (No p.first p.second k)
+plain (stuck k) = Err Unsplit
 
 -- what an allowance makes of it: in time, and too late
 pub in_time_lem : (allowance : ℕ) (w : Walk Pair) → count w ≤ allowance → within allowance 0 w ≡ plain w
@@ -37,12 +38,12 @@ in_time_lem allowance (missed k) l = rw (zero-add k, le-leb k allowance l)
 in_time_lem allowance (hit p k) l = rw (zero-add k, le-leb k allowance l)
 in_time_lem allowance (stuck k) l = rw (zero-add k, le-leb k allowance l)
 
-pub too_late : (allowance : ℕ) (w : Walk Pair) → allowance < count w → within allowance 0 w ≡ Spent allowance
+pub too_late : (allowance : ℕ) (w : Walk Pair) → allowance < count w → within allowance 0 w ≡ Err (Spent allowance)
 too_late allowance (missed k) l = rw (zero-add k, lt-leb k allowance l)
 too_late allowance (hit p k) l = rw (zero-add k, lt-leb k allowance l)
 too_late allowance (stuck k) l = rw (zero-add k, lt-leb k allowance l)
 
--- the enum says what the reply says
+-- the answer says what the reply says
 pub says_within : (allowance : ℕ) (w : Walk Pair) → verdict_says (within allowance 0 w) ≡ reply_says allowance w
 says_within allowance w = ⊎_elim early late (le-or-lt (count w) allowance)
   where
@@ -57,24 +58,15 @@ says_within allowance w = ⊎_elim early late (le-or-lt (count w) allowance)
     late : allowance < count w → verdict_says (within allowance 0 w) ≡ reply_says allowance w
     late l = ap verdict_says (too_late allowance w l) ∙ go w l
       where
-        go : (w : Walk Pair) → allowance < count w → verdict_says (Spent allowance) ≡ reply_says allowance w
+        go : (w : Walk Pair) → allowance < count w → verdict_says (Err (Spent allowance)) ≡ reply_says allowance w
         go (missed k) m = rw (lt-leb k allowance m)
         go (hit p k) m = rw (lt-leb k allowance m)
         go (stuck k) m = rw (lt-leb k allowance m)
 
--- the kinds of answers
-abbrev kind : Verdict → ℕ
-kind (Yes k) = 0
-kind (No a b k) = 1
-kind (Spent k) = 2
-kind Unsplit = 3
-kind Outside = 4
-kind (Bad f) = 5
-
--- an answer that is not Spent is the answer without an allowance
-answered : (allowance : ℕ) (w : Walk Pair) (v : Verdict) → within allowance 0 w ≡ v → ¬ (kind v ≡ 2) → plain w ≡ v
-answered allowance w v e f =
-    ⊎_elim (λ l. sym (in_time_lem allowance w l) ∙ e) (λ l. absurd (f (sym (ap kind (sym (too_late allowance w l) ∙ e))))) (le-or-lt (count w) allowance)
+-- a verdict is the answer without an allowance
+answered : (allowance : ℕ) (w : Walk Pair) (v : Verdict) → within allowance 0 w ≡ Ok v → plain w ≡ Ok v
+answered allowance w v e =
+    ⊎_elim (λ l. sym (in_time_lem allowance w l) ∙ e) (λ l. let late = sym (too_late allowance w l) ∙ e in cc) (le-or-lt (count w) allowance)
 
 module _ (t : List ℕ) (d allowance : ℕ) where
   abbrev n : ℕ
@@ -83,31 +75,25 @@ module _ (t : List ℕ) (d allowance : ℕ) where
   abbrev s : ℕ → ℕ → Bool
   s = satisfied t
 
-  abbrev answer : Verdict
+  abbrev answer : Result Verdict Refusal
   answer = within allowance 0 (walk (verdict_tree n s d))
 
-  pub yes_means : (k : ℕ) → answer ≡ Yes k → intersecting n s d ≡ true
+  pub yes_means : (k : ℕ) → answer ≡ Ok (Yes k) → intersecting n s d ≡ true
   yes_means k e = go (decided n s d (satisfied_monotone t))
     where
       go : Decided n s d (satisfied_monotone t) → intersecting n s d ≡ true
       go (all_meet j w i few) = i
       go (two_apart x j w z i few) =
-          let a : No x.first x.second j ≡ Yes k = answered allowance (hit x j) (Yes k) (sym (ap (within allowance 0) w) ∙ e) (λ q. omega arith) in
-          let b : ◌≡◌ {A = ℕ} 1 0 = ap kind a in
-          let c : ⊥ = omega arith in
-          absurd c
+          let a = answered allowance (hit x j) (Yes k) (sym (ap (within allowance 0) w) ∙ e) in cc
 
-  pub no_means : (p q k : ℕ) → answer ≡ No p q k → (disjoint_quorums n s d p q ≡ true) × (intersecting n s d ≡ false)
+  pub no_means : (p q k : ℕ) → answer ≡ Ok (No p q k) → (disjoint_quorums n s d p q ≡ true) × (intersecting n s d ≡ false)
   no_means p q k e = go (decided n s d (satisfied_monotone t))
     where
       go : Decided n s d (satisfied_monotone t) → (disjoint_quorums n s d p q ≡ true) × (intersecting n s d ≡ false)
       go (all_meet j w i few) =
-          let a : Yes j ≡ No p q k = answered allowance (missed j) (No p q k) (sym (ap (within allowance 0) w) ∙ e) (λ q. omega arith) in
-          let b : ◌≡◌ {A = ℕ} 0 1 = ap kind a in
-          let c : ⊥ = omega arith in
-          absurd c
+          let a = answered allowance (missed j) (No p q k) (sym (ap (within allowance 0) w) ∙ e) in cc
       go (two_apart x j w z i few) =
-          let a : No x.first x.second j ≡ No p q k = answered allowance (hit x j) (No p q k) (sym (ap (within allowance 0) w) ∙ e) (λ q. omega arith) in
+          let a = answered allowance (hit x j) (No p q k) (sym (ap (within allowance 0) w) ∙ e) in
           let f : x.first ≡ p = cc in
           let g : x.second ≡ q = cc in (
             subst (λ (m : ℕ). disjoint_quorums n s d p m ≡ true) g
@@ -127,30 +113,14 @@ visits_few t d = go (decided (nodes t) (satisfied t) d (satisfied_monotone t))
     go (two_apart x j w z i l) = subst few (sym w) l
 
 -- Two answers that both fit the promise are equal.
-pub verdict_unique : (t : List ℕ) (d allowance : ℕ) (x y : Verdict) → VerdictPromise t d allowance x → VerdictPromise t d allowance y → x ≡ y
+pub verdict_unique : (t : List ℕ) (d allowance : ℕ) (x y : Result Verdict Refusal) → VerdictPromise t d allowance x → VerdictPromise t d allowance y → x ≡ y
 verdict_unique t d allowance x y p q = verdict_exact x y (p.told ∙ sym q.told)
 
 -- ---- the promise, kept by each way out of the operation
-kinds_apart : {A : Type 0} (x y : Verdict) → x ≡ y → ¬ (kind x ≡ kind y) → A
-kinds_apart x y e f = absurd (f (ap kind e))
+pub kept_refused : (t : List ℕ) (d allowance : ℕ) (e : Refusal) → refusal_says e ≡ verdict_reply t d allowance → VerdictPromise t d allowance (Err e)
+kept_refused t d allowance e f = record { told = f; yes_means = λ k x. cc; no_means = λ p q k x. cc }
 
-pub kept_bad : (t : List ℕ) (d allowance : ℕ) (f : Fault) → verdict_says (Bad f) ≡ verdict_reply t d allowance → VerdictPromise t d allowance (Bad f)
-kept_bad t d allowance f e =
-    record {
-      told = e;
-      yes_means = λ k x. kinds_apart (Bad f) (Yes k) x (λ q. omega arith);
-      no_means = λ p q k x. kinds_apart (Bad f) (No p q k) x (λ y. omega arith);
-    }
-
-pub kept_outside : (t : List ℕ) (d allowance : ℕ) → verdict_says Outside ≡ verdict_reply t d allowance → VerdictPromise t d allowance Outside
-kept_outside t d allowance e =
-    record {
-      told = e;
-      yes_means = λ k x. kinds_apart Outside (Yes k) x (λ q. omega arith);
-      no_means = λ p q k x. kinds_apart Outside (No p q k) x (λ y. omega arith);
-    }
-
-pub kept_search : (t : List ℕ) (d allowance : ℕ) (r : Verdict) → r ≡ within allowance 0 (walk (verdict_tree (nodes t) (satisfied t) d))
+pub kept_search : (t : List ℕ) (d allowance : ℕ) (r : Result Verdict Refusal) → r ≡ within allowance 0 (walk (verdict_tree (nodes t) (satisfied t) d))
     → verdict_says r ≡ verdict_reply t d allowance → VerdictPromise t d allowance r
 kept_search t d allowance r w e =
     record {

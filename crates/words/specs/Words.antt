@@ -1,5 +1,7 @@
 -- The report's fixed words, byte by byte.
-use Rattle.std.specs.Prelude.{ℕ, cond, List, [], ◌∷◌, eqb}
+use Rattle.std.specs.Prelude.{ℕ, List, [], ◌∷◌}
+use Rattle.words.specs.declared.Word.{Word}
+use Rattle.words.specs.declared.Word.TheVariants as Wx
 
 abbrev pub refused : List ℕ
 refused = 114 ∷ 101 ∷ 102 ∷ 117 ∷ 115 ∷ 101 ∷ 100 ∷ []
@@ -37,17 +39,16 @@ q = 113 ∷ []
 abbrev pub b : List ℕ
 b = 98 ∷ []
 
--- the fixed words by their numbers
-unfoldable pub word_text : ℕ → List ℕ
-word_text x =
-    cond (eqb x 0) refused
-    (cond (eqb x 1) nodes
-    (cond (eqb x 2) sets
-    (cond (eqb x 3) verdict
-    (cond (eqb x 4) yes
-    (cond (eqb x 5) no
-    (cond (eqb x 6) none
-    (cond (eqb x 7) minimal
-    (cond (eqb x 8) q
-    (cond (eqb x 9) blocking
-    (cond (eqb x 10) b []))))))))))
+-- the text of a fixed word
+abbrev pub word_text : Word → List ℕ
+word_text Wx.Refused = refused
+word_text Wx.Nodes = nodes
+word_text Wx.Sets = sets
+word_text Wx.Verdict = verdict
+word_text Wx.Yes = yes
+word_text Wx.No = no
+word_text Wx.Hyphen = none
+word_text Wx.Minimal = minimal
+word_text Wx.Q = q
+word_text Wx.Blocking = blocking
+word_text Wx.B = b

@@ -13,18 +13,9 @@ use Rattle.faults.proofs.inner_sets.Invariants.{left}
 use Rattle.faults.proofs.inner_sets.Goals.{then-here-above-2, else-here-above-2}
 use Rattle.faults.proofs.inner_sets.Goals as goal
 
-pub level-above-requires : goal.level-above-requires
-level-above-requires c = omega arith
-
-pub overflow_add-j : goal.overflow_add-j
-overflow_add-j c = omega arith
-
 pub loop-j-init : goal.loop-j-init
 unfolding records
-loop-j-init c = (omega arith, omega arith, zero-add (left c.args.t.now c.level-above.result (c.args.r + 1)))
-
-pub level-here-requires : goal.level-here-requires
-level-here-requires c = omega arith
+loop-j-init c = (omega arith, zero-add (left c.args.t.now c.level-above.result (c.args.r + 1)))
 
 -- what is returned, once nothing is left
 done : (t : List ℕ) (r above count j : ℕ) → above ≡ level t r → count + left t above j ≡ left t above (r + 1) → left t above j ≡ 0 →
@@ -39,20 +30,10 @@ returns-then-here-above c =
     let a = c.level-above.result in
     let j = c.loop-j.j in
     let h : level T j ≤ a = omega (arith, c.if-here-above.true, c.level-here.ensures.0) in
-    done T c.args.r a c.loop-j.count j c.level-above.ensures.0 c.loop-j.invariant.2 (from_stop (λ i. true) T a j h)
-
-pub overflow_add-above : goal.overflow_add-above
-overflow_add-above c = omega arith
+    done T c.args.r a c.loop-j.count j c.level-above.ensures.0 c.loop-j.invariant.1 (from_stop (λ i. true) T a j h)
 
 pub overflow_add-count : goal.overflow_add-count
 overflow_add-count c = omega arith
-
-pub overflow_add-j-in-loop-j : goal.overflow_add-j-in-loop-j
-overflow_add-j-in-loop-j c = omega arith
-
-pub loop-j-smaller : goal.loop-j-smaller
-unfolding records
-loop-j-smaller c = omega arith
 
 pub loop-j-preserved : goal.loop-j-preserved
 unfolding records
@@ -66,9 +47,9 @@ loop-j-preserved c =
     let h : a < level T j = omega (arith, c.if-here-above.false) in
     elim c.if-here-above-2.branch [
       | then-here-above-2 w ↦
-          let e = from_hit (λ i. true) T a j l h (sym el ∙ w.if-here-above-2.true ∙ add-one a) refl in (omega arith, omega arith, omega arith)
+          let e = from_hit (λ i. true) T a j l h (sym el ∙ w.if-here-above-2.true ∙ add-one a) refl in (omega arith, omega arith)
       | else-here-above-2 w ↦
-          let e = from_deeper (λ i. true) T a j l h (λ q. w.if-here-above-2.false (el ∙ q ∙ sym (add-one a))) in (omega arith, omega arith, omega arith)
+          let e = from_deeper (λ i. true) T a j l h (λ q. w.if-here-above-2.false (el ∙ q ∙ sym (add-one a))) in (omega arith, omega arith)
     ]
 
 pub returns : goal.returns
@@ -77,4 +58,4 @@ returns c =
     let T = c.args.t.now in
     let a = c.level-above.result in
     let j = c.loop-j.j in
-    done T c.args.r a c.loop-j.count j c.level-above.ensures.0 c.loop-j.invariant.2 (from_end (λ i. true) T a j c.loop-j-test.false)
+    done T c.args.r a c.loop-j.count j c.level-above.ensures.0 c.loop-j.invariant.1 (from_end (λ i. true) T a j c.loop-j-test.false)

@@ -2,8 +2,7 @@
 use mathlib.Core.Path.{◌≡◌}
 use mathlib.Core.Bool.{true}
 use mathlib.Core.List.{List}
-use Prim.Native.Nat.{ℕ, ◌+◌, ◌-◌, ◌≤◌}
-use Rattle.meanings.specs.Table.{records}
+use Prim.Native.Nat.{ℕ, ◌+◌, ◌≤◌}
 use Rattle.tables.proofs.Runs.{inner_from}
 use Rattle.faults.proofs.inner_sets.Given as goal
 
@@ -12,7 +11,4 @@ abbrev pub left : List ℕ → ℕ → ℕ → ℕ
 left t above j = inner_from (λ i. true) t above j
 
 abbrev pub invariant-loop-j : goal.invariant-loop-j
-invariant-loop-j l = (l.j ≤ records l.t) × (l.count ≤ l.j) × (l.count + left l.t l.above l.j ≡ left l.t l.above (l.r + 1))
-
-abbrev pub decreases-loop-j : goal.decreases-loop-j
-decreases-loop-j l = records l.t - l.j
+invariant-loop-j l = (l.count ≤ l.j) × (l.count + left l.t l.above l.j ≡ left l.t l.above (l.r + 1))

@@ -5,16 +5,16 @@ use Prim.Native.Nat.{◌+◌, ◌≤◌, ◌<◌}
 use Rattle.fields.specs.Fields.{end_at}
 use Rattle.fields.proofs.end_at.Goals as goal
 
-pub returns-then-words-at-gt3 : goal.returns-then-words-at-gt3
+pub returns-then-i-count : goal.returns-then-i-count
 unfolding end_at
-returns-then-words-at-gt3 c =
+returns-then-i-count c =
     let a = c.args in
-    let h : a.at + 3 < a.words = omega arith in
-    rw (lt-ltb (a.at + 3) a.words h)
+    let h : a.i + 1 < a.count = omega arith in
+    rw (lt-ltb (a.i + 1) a.count h)
 
-pub returns : goal.returns
+pub returns-else-i-count : goal.returns-else-i-count
 unfolding end_at
-returns c =
+returns-else-i-count c =
     let a = c.args in
-    let h : a.words ≤ a.at + 3 = omega arith in
-    rw (le-ltb (a.at + 3) a.words h)
+    let h : a.count ≤ a.i + 1 = omega arith in
+    rw (le-ltb (a.i + 1) a.count h)

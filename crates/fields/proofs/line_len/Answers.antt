@@ -1,24 +1,26 @@
--- Six fields take at most 1,092 bytes, so the line fits; what writing it answers is its length.
+-- Each field counts for its text and the byte behind it, which are at most 182.
 use native.Mathlib.Omega.{arith}
-use Prim.Native.Nat.{ℕ, ◌^◌, ◌≤◌, ◌<◌}
-use lib.ListN.{length, get_or}
-use Rattle.fields.specs.Fields.{line_of}
-use Rattle.fields.proofs.Laws.{line_most}
+use Prim.Native.Nat.{ℕ}
+use mathlib.Core.Path.{refl}
+use Rattle.words.specs.declared.Word.TheVariants as Wx
+use Rattle.fields.specs.declared.Field.TheVariants as Fx
+use Rattle.fields.proofs.Laws.{length_field, length_rest}
 use Rattle.fields.proofs.line_len.Goals as goal
 
-pub put_line-requires : goal.put_line-requires
-put_line-requires c =
-    let most : length (line_of c.args.fields.now) ≤ 1092 =
-    let f = c.args.fields.now in
-    let small : (i : ℕ) → get_or f i 0 < 2 ^ 64 = λ i. omega (arith, c.shared_slice_known-1.given i) in
-    omega (arith, c.requires, line_most f small) in
-    omega (arith, most)
+pub loop-field-preserved : goal.loop-field-preserved
+loop-field-preserved c =
+    let v = c.loop-field.invariant in
+    let e = length_field c.args.fields.now c.loop-field.field-index (Fx.Fixed Wx.Refused) c.loop-field-test.true in
+    record {
+      counted = omega (arith, v.counted, e, c.text_len.ensures.long);
+      within = omega (arith, v.within, c.text_len.ensures.within);
+    }
 
 pub returns : goal.returns
 returns c =
-    let most : length (line_of c.args.fields.now) ≤ 1092 =
-    let f = c.args.fields.now in
-    let small : (i : ℕ) → get_or f i 0 < 2 ^ 64 = λ i. omega (arith, c.shared_slice_known-1.given i) in
-    omega (arith, c.requires, line_most f small) in
-    let w = c.put_line.ensures in
-    record { long = w.count; within = omega (arith, w.count, most) }
+    let v = c.loop-field.invariant in
+    let e = length_rest c.args.fields.now c.loop-field.field-index (omega (arith, c.loop-field-test.false)) in
+    record {
+      long = omega (arith, v.counted, e);
+      within = omega (arith, v.within, c.requires, c.loop-field.auto.field-index-end);
+    }

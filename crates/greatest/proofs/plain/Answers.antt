@@ -9,9 +9,8 @@ use Rattle.greatest.proofs.Below.{all_due, none_within}
 use Rattle.greatest.proofs.plain.Goals as goal
 
 pub greatest_within-requires : goal.greatest_within-requires
-greatest_within-requires c =
-    (c.requires.0, all_due c.args.t.now nobody c.args.u nobody c.requires.1 (λ i p. has-nobody i) (none_within c.args.u))
+greatest_within-requires c = all_due c.args.plan.now nobody c.args.u nobody c.requires (λ i p. has-nobody i) (none_within c.args.u)
 
 pub returns : goal.returns
 returns c =
-    c.greatest_within.ensures ∙ sym (holding-nobody (greatest (nodes c.args.t.now) (satisfied c.args.t.now) nobody c.args.u))
+    c.greatest_within.ensures ∙ sym (holding-nobody (greatest (nodes c.args.plan.now) (satisfied c.args.plan.now) nobody c.args.u))

@@ -4,7 +4,7 @@ use Rattle.greatest.specs.Greatest.{Waiting}
 use Rattle.greatest.proofs.unmet.Given as goal
 
 abbrev pub invariant-loop-left : goal.invariant-loop-left
-invariant-loop-left l = Waiting l.t l.d l.c l.left
+invariant-loop-left l = Waiting l.plan l.d l.c l.left
 
 abbrev pub decreases-loop-left : goal.decreases-loop-left
 decreases-loop-left l = size 64 l.left

@@ -1,78 +1,29 @@
 -- The table's faults first, then 8, each handed on whatever the answer would be; then the answer. What is told carries its meaning.
-use mathlib.Core.Path.{◌≡◌, ap, ◌∙◌}
-use mathlib.Core.Bool.{Bool, true, false, not}
-use mathlib.Core.List.{List}
-use Prim.Native.Nat.{ℕ}
-use Rattle.sets.specs.Sets.{within as lies_within, everyone}
-use Rattle.meanings.specs.Table.{nodes, satisfied}
-use Rattle.meanings.specs.Intact.{intact_search}
-use Rattle.meanings.specs.Replies.{Reply}
-use Rattle.meanings.specs.Questions.{intact_reply, check_reply, intact_says as reply_says}
-use Rattle.answers.specs.Said.{checked_says, intact_says}
-use Rattle.answers.specs.declared.Fault.{Fault}
-use Rattle.answers.specs.declared.Checked.{Checked}
-use Rattle.answers.specs.declared.Checked.TheVariants as Cx
-use Rattle.answers.specs.declared.Intact.{Intact}
-use Rattle.answers.specs.declared.Intact.TheVariants.{Outside, Bad}
-use Rattle.faults.proofs.Known.{fault_known}
-use Rattle.faults.proofs.Opening.{Passed, past_check, set_inside, set_outside, set_answered}
-use Rattle.intact.specs.Rounds.{within}
+use mathlib.Core.Path.{◌∙◌, ap}
+use Rattle.std.proofs.lemmas.Result.{err_from_is_err_and}
+use Rattle.std.specs.Prelude.{Err}
+use Rattle.meanings.specs.Questions.{intact_reply}
+use Rattle.answers.specs.declared.Refusal.TheVariants.{Outside}
+use Rattle.answers.specs.Said.{intact_says}
+use Rattle.faults.proofs.Opening.{past_check, set_outside, set_answered}
 use Rattle.intact.proofs.Meaning.{says_within, promised}
 use Rattle.intact.proofs.intact_nodes.Goals as goal
 
--- what is told, in the order of the numbers
-told_fault : (t : List ℕ) (o : Checked) → checked_says o ≡ check_reply t → (f : Fault) → o ≡ Cx.Bad f → (ill allowance : ℕ)
-    → intact_says (Bad f) ≡ intact_reply t ill allowance
+pub returns-in_err-table : goal.returns-in_err-table
 unfolding intact_reply
-told_fault t o says f e ill allowance = fault_known t o says f e _
-
-module _ (t : List ℕ) (n : ℕ) (p : Passed t n) (ill allowance : ℕ) (found : Bool) (found_is : found ≡ lies_within ill (everyone n)) where
-  abbrev answer : Reply
-  answer = reply_says allowance (intact_search (nodes t) (satisfied t) ill)
-
-  told_outside : not found ≡ true → intact_says Outside ≡ intact_reply t ill allowance
-  unfolding intact_reply
-  told_outside e = set_outside t n p ill found found_is e answer
-
-  told_answer : not found ≡ false → (r : Intact) → r ≡ within allowance 0 (intact_search (nodes t) (satisfied t) ill) → intact_says r ≡ intact_reply t ill allowance
-  unfolding intact_reply
-  told_answer e r w =
-      ap intact_says w ∙ says_within allowance (intact_search (nodes t) (satisfied t) ill) ∙ set_answered t n p ill found found_is e answer
-
-pub returns-in_default : goal.returns-in_default
-returns-in_default c =
-    let t = c.args.table.now in
-    promised t c.args.ill c.args.allowance (Bad c.fault_of.result)
-    (told_fault t c.check_table-checked.result c.check_table-checked.ensures c.fault_of.result c.fault_of.ensures c.args.ill c.args.allowance)
-
-pub inside-requires : goal.inside-requires
-inside-requires c =
-    let passed : Passed c.args.table.now c.in-Sound.nodes =
-    past_check c.args.table.now c.check_table-checked.result c.check_table-checked.ensures c.in-Sound.nodes c.in-Sound.records c.in-Sound.is in
-    passed.few
+returns-in_err-table c =
+    let p = err_from_is_err_and c.from_residual.result c.from_residual.ensures.1 in
+    rw (p.1, p.2) (promised _ _ _ (Err _) (c.in_err-table.ensures _))
 
 pub returns-then-not-inside : goal.returns-then-not-inside
+unfolding intact_reply
 returns-then-not-inside c =
-    let passed : Passed c.args.table.now c.in-Sound.nodes =
-    past_check c.args.table.now c.check_table-checked.result c.check_table-checked.ensures c.in-Sound.nodes c.in-Sound.records c.in-Sound.is in
-    let t = c.args.table.now in
-    promised t c.args.ill c.args.allowance Outside
-    (told_outside t c.in-Sound.nodes passed c.args.ill c.args.allowance c.inside.result c.inside.ensures c.if-not-inside.true-raw)
-
-pub intact_of-requires : goal.intact_of-requires
-intact_of-requires c =
-    let passed : Passed c.args.table.now c.in-Sound.nodes =
-    past_check c.args.table.now c.check_table-checked.result c.check_table-checked.ensures c.in-Sound.nodes c.in-Sound.records c.in-Sound.is in (
-      passed.checked,
-      passed.nodes_are,
-      set_inside c.args.table.now c.in-Sound.nodes passed c.args.ill c.inside.result c.inside.ensures c.if-not-inside.false-raw,
-    )
+    promised _ _ _ (Err Outside) (set_outside (past_check c.in_ok-table.ensures c.nodes.ensures) c.args.ill c.if-not-inside.ensures _)
 
 pub returns : goal.returns
+unfolding intact_reply
 returns c =
-    let passed : Passed c.args.table.now c.in-Sound.nodes =
-    past_check c.args.table.now c.check_table-checked.result c.check_table-checked.ensures c.in-Sound.nodes c.in-Sound.records c.in-Sound.is in
-    let t = c.args.table.now in
-    promised t c.args.ill c.args.allowance c.intact_of.result
-    (told_answer t c.in-Sound.nodes passed c.args.ill c.args.allowance c.inside.result c.inside.ensures c.if-not-inside.false-raw
-    c.intact_of.result c.intact_of.ensures)
+    let found = rw (c.new.ensures, c.in_ok-table.ensures.0) at c.verdict_then_rounds.ensures in
+    promised _ _ _ c.verdict_then_rounds.result
+    (ap intact_says found ∙ says_within c.args.allowance _
+    ∙ set_answered (past_check c.in_ok-table.ensures c.nodes.ensures) c.args.ill c.if-not-inside.ensures _)

@@ -1,37 +1,23 @@
--- A verdict other than no ends the rounds here; a no leads on to fewer nodes, from which the rounds answer the same.
-use mathlib.Core.Path.{◌≡◌, sym, ◌∙◌, subst}
-use mathlib.Core.List.{List}
-use Prim.Native.Nat.{ℕ, ◌^◌, ◌<◌}
-use Rattle.sets.specs.Sets.{nobody}
-use Rattle.meanings.specs.Table.{nodes, satisfied}
-use Rattle.meanings.specs.Quorums.{greatest}
+-- A verdict that is refused ends the rounds here, and so does a yes; a no leads on to fewer nodes, from which the rounds answer the same.
+use Rattle.std.proofs.lemmas.Result.{err_from_is_err_and}
 use Rattle.theory.proofs.Greatest.{greatest-lt}
-use Rattle.intact.proofs.Taken.{not-no}
-use Rattle.intact.proofs.Rounds.{stops, goes_on}
+use Rattle.intact.proofs.Rounds.{stops, ends, goes_on}
 use Rattle.intact.proofs.round.Goals as goal
 
--- q is a set of nodes
-quorum-lt : (t : List ℕ) (u q : ℕ) → q ≡ greatest (nodes t) (satisfied t) nobody u → q < 2 ^ nodes t
-quorum-lt t u q e = subst (λ (y : ℕ). y < 2 ^ nodes t) (sym e) (greatest-lt (nodes t) (satisfied t) nobody u)
-
-pub plain-q-requires : goal.plain-q-requires
-plain-q-requires c = (c.requires.planned, c.requires.inside)
-
-pub verdict_of-found-requires : goal.verdict_of-found-requires
-verdict_of-found-requires c =
-    record { planned = c.requires.planned; all_is = c.requires.all_is; inside = quorum-lt c.args.t.now c.args.left c.plain-q.result c.plain-q.ensures }
-
-pub returns-in_default : goal.returns-in_default
-returns-in_default c =
-    c.settled.ensures
-    ∙ stops c.args.t.now c.args.left c.args.allowance c.args.spent c.plain-q.result c.plain-q.ensures c.verdict_of-found.result c.verdict_of-found.ensures
-    (not-no c.verdict_of-found.result c.in_default.not-No)
+pub returns-in_err-found : goal.returns-in_err-found
+returns-in_err-found c =
+    let p = err_from_is_err_and c.from_residual.result c.from_residual.ensures.1 in
+    rw (p.1, p.2)
+    (stops _ _ _ _ _ c.plain-q.ensures _ (rw (c.without-out.ensures, c.all.ensures.reads, c.table.ensures.reads) at c.in_err-found.ensures))
 
 pub next-u-requires : goal.next-u-requires
-next-u-requires c =
-    (c.requires.planned, quorum-lt c.args.t.now c.args.left c.plain-q.result c.plain-q.ensures)
+next-u-requires c = rw c.plain-q.ensures (greatest-lt _ _ _ _)
 
-pub returns : goal.returns
-returns c =
-    goes_on c.args.t.now c.args.left c.args.allowance c.args.spent c.plain-q.result c.plain-q.ensures c.verdict_of-found.result c.verdict_of-found.ensures
-    c.in-No.first c.in-No.second c.in-No.visits c.next-u.result c.in-No.is c.next-u.ensures
+pub returns-in-Yes : goal.returns-in-Yes
+returns-in-Yes c =
+    ends _ _ _ _ _ c.plain-q.ensures _ (rw (c.in-Yes.is, c.without-out.ensures, c.all.ensures.reads, c.table.ensures.reads) at c.in_ok-found.ensures)
+
+pub returns-in-No : goal.returns-in-No
+returns-in-No c =
+    goes_on _ _ _ _ _ c.plain-q.ensures _ _ _ _ (rw (c.in-No.is, c.without-out.ensures, c.all.ensures.reads, c.table.ensures.reads) at c.in_ok-found.ensures)
+    c.next-u.ensures

@@ -1,28 +1,20 @@
--- The rounds from here, after the visits so far, answer what the rounds from the start do. Each round leaves fewer nodes, so they end.
-use mathlib.Core.Path.{refl, ◌∙◌, subst}
-use Rattle.intact.specs.Rounds.{Sequel, Turned}
+-- What a round hands on, or answers, is what the rounds from the start do.
+use mathlib.Core.Path.{◌∙◌}
+use Rattle.std.proofs.lemmas.Result.{err_from_is_err_and}
 use Rattle.intact.proofs.rounds_from.Goals as goal
 
-pub loop-answer-init : goal.loop-answer-init
-loop-answer-init c = (c.requires.inside, refl)
+pub returns-in_err-turn : goal.returns-in_err-turn
+returns-in_err-turn c =
+    let p = err_from_is_err_and c.from_residual.result c.from_residual.ensures.1 in
+    rw (p.1, p.2) (c.in_err-turn.ensures ∙ c.loop-turn.invariant.same)
 
-pub round-turn-requires : goal.round-turn-requires
-round-turn-requires c =
-    record { planned = c.requires.planned; all_is = c.requires.all_is; inside = c.loop-answer.invariant.0 }
+pub returns-in-Break : goal.returns-in-Break
+returns-in-Break c = (rw c.in-Break.is at c.in_ok-turn.ensures) ∙ c.loop-turn.invariant.same
 
-pub returns-in-Ended : goal.returns-in-Ended
-returns-in-Ended c =
-    let T = c.args.t.now in
-    subst (Turned T c.loop-answer.left c.args.allowance c.loop-answer.visits) c.in-Ended.is c.round-turn.ensures ∙ c.loop-answer.invariant.1
+pub loop-turn-smaller : goal.loop-turn-smaller
+loop-turn-smaller c = (rw c.in-Continue.is at c.in_ok-turn.ensures).fewer
 
-pub loop-answer-smaller : goal.loop-answer-smaller
-loop-answer-smaller c =
-    let T = c.args.t.now in
-    let w : Sequel T c.loop-answer.left c.args.allowance c.loop-answer.visits c.in-Next.after c.in-Next.so_far = subst (Turned T c.loop-answer.left c.args.allowance c.loop-answer.visits) c.in-Next.is c.round-turn.ensures in
-    w.fewer
-
-pub loop-answer-preserved : goal.loop-answer-preserved
-loop-answer-preserved c =
-    let T = c.args.t.now in
-    let w : Sequel T c.loop-answer.left c.args.allowance c.loop-answer.visits c.in-Next.after c.in-Next.so_far = subst (Turned T c.loop-answer.left c.args.allowance c.loop-answer.visits) c.in-Next.is c.round-turn.ensures in
-    (w.inside, w.same ∙ c.loop-answer.invariant.1)
+pub loop-turn-preserved : goal.loop-turn-preserved
+loop-turn-preserved c =
+    let rest = rw c.in-Continue.is at c.in_ok-turn.ensures in
+    record { inside = rest.inside; same = rest.same ∙ c.loop-turn.invariant.same }

@@ -5,9 +5,14 @@ use lib.ListN.{length, take}
 use Rattle.intake.specs.Intake.{UpTo}
 use Rattle.intake.proofs.hear.Given as goal
 
-abbrev pub invariant-loop-count : goal.invariant-loop-count
-invariant-loop-count g l =
-    (length l.words ≡ 512) × (length l.buf ≡ 512) × (l.len ≤ 512) × (l.r ≤ 256) × UpTo l.words (take l.len l.buf) l.r l.nought × (l.bytes ≤ 512 * l.r)
+abbrev pub invariant-loop-window : goal.invariant-loop-window
+invariant-loop-window g l = record {
+  whole : length l.buf ≡ 512;
+  held : l.window.count ≤ 512;
+  few : l.r ≤ 256;
+  read : l.bytes ≤ 512 * l.r;
+  taken : UpTo l.words (take l.window.count l.buf) l.r l.nought;
+}
 
-abbrev pub decreases-loop-count : goal.decreases-loop-count
-decreases-loop-count g l = 256 - l.r
+abbrev pub decreases-loop-window : goal.decreases-loop-window
+decreases-loop-window g l = 256 - l.r

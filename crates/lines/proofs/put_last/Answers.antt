@@ -8,21 +8,13 @@ use Rattle.lines.specs.Lines.{last_text}
 use Rattle.lines.proofs.Texts.{length_last}
 use Rattle.lines.proofs.put_last.Goals as goal
 
-pub put_members-k-requires : goal.put_members-k-requires
-put_members-k-requires c = omega (arith, c.requires, length_last c.args.m)
-
 pub bounds-out-k : goal.bounds-out-k
 bounds-out-k c =
-    let room : let a = c.args in length (member_text a.m) < length a.out.now = omega (arith, c.requires, length_last c.args.m) in
+    let room : length (member_text c.args.m) < length c.args.out.now = omega (arith, length_last c.args.m) in
     within_byte _ _ _ _ c.put_members-k.ensures room
-
-pub overflow_add-result : goal.overflow_add-result
-overflow_add-result c =
-    let room : let a = c.args in length (member_text a.m) < length a.out.now = omega (arith, c.requires, length_last c.args.m) in
-    omega (arith, room, c.put_members-k.ensures.count)
 
 pub returns : goal.returns
 unfolding last_text
 returns c =
-    let room : let a = c.args in length (member_text a.m) < length a.out.now = omega (arith, c.requires, length_last c.args.m) in
+    let room : length (member_text c.args.m) < length c.args.out.now = omega (arith, length_last c.args.m) in
     next_byte _ _ _ _ c.put_members-k.ensures room 10

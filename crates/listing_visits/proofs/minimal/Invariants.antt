@@ -5,7 +5,7 @@ use Rattle.listing_visits.specs.Visits.{Left}
 use Rattle.listing_visits.proofs.minimal.Given as goal
 
 abbrev pub invariant-loop-left : goal.invariant-loop-left
-invariant-loop-left l = Left (nodes l.t) (satisfied l.t) l.sought l.c l.left
+invariant-loop-left l = Left (nodes l.plan) (satisfied l.plan) l.sought l.c l.left
 
 abbrev pub decreases-loop-left : goal.decreases-loop-left
 decreases-loop-left l = size 64 l.left

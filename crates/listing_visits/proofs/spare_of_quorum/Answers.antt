@@ -12,20 +12,18 @@ use Rattle.listing_visits.proofs.spare_of_quorum.Goals as goal
 
 pub greatest_without-requires : goal.greatest_without-requires
 greatest_without-requires c =
-    let T = c.args.t.now in
-    let C = closed_quorum T nobody c.args.c c.requires.0.is_one in (
-      c.requires.0.footing.planned,
-      subst (Striking T nobody c.args.c c.args.v) (sym c.without.ensures)
-          (record {
-            closed = C;
-            one_in = left_in (nodes T) (satisfied T) _ c.args.c c.args.left c.requires.1 c.args.v c.requires.2;
-            must_in = done_stay (nodes T) c.args.c c.args.left c.args.v C.below c.requires.2;
-          }),
-    )
+    let T = c.args.plan.now in
+    let C = closed_quorum T nobody c.args.c c.requires.0.is_one in
+    subst (Striking T nobody c.args.c c.args.v) (sym c.without.ensures)
+    (record {
+      closed = C;
+      one_in = left_in (nodes T) (satisfied T) _ c.args.c c.args.left c.requires.1 c.args.v c.requires.2;
+      must_in = done_stay (nodes T) c.args.c c.args.left c.args.v C.below c.requires.2;
+    })
 
 pub returns : goal.returns
 returns c =
-    let T = c.args.t.now in
+    let T = c.args.plan.now in
     spares_quorum (nodes T) (satisfied T) (satisfied_monotone T) c.args.c c.args.v c.args.left c.greatest_without.result
-    (closed_quorum T nobody c.args.c c.requires.0.is_one).below c.requires.1
+    c.requires.0.below c.requires.1
     (c.greatest_without.ensures ∙ ap (λ (x : ℕ). holding x (greatest (nodes T) (satisfied T) nobody (c.args.c ∖ only c.args.v))) c.without.ensures)

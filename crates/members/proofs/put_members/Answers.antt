@@ -12,14 +12,14 @@ use Rattle.decimal.proofs.Place.{at_place, length_place, lent, place_place, set_
 use Rattle.members.specs.Members.{member_text}
 use Rattle.members.specs.Steps.{id_text}
 use Rattle.members.proofs.Written.{text_none}
-use Rattle.members.proofs.Walk.{ids_left, start, below_64, step, left-all, left_split, left_step, left_nothing}
+use Rattle.members.proofs.Walk.{ids_left, left_fits, left_split, left_step, left_nothing, left_end, left-all}
 use Rattle.members.proofs.put_members.Invariants.{Left}
 use Rattle.members.proofs.put_members.Goals as goal
 
 begin : (out : List ℕ) (m : ℕ) → m < 2 ^ 64 → (m ≡ 0 → ⊥) → length (member_text m) ≤ length out → Left out m out 0 m 0
 begin out m h n r =
     record {
-      walk = start m h;
+      fits = h;
       place = zero-add (length (ids_left 0 m)) ∙ ap length (left-all m n);
       same = refl;
       room = r;
@@ -27,30 +27,31 @@ begin out m h n r =
     }
 
 module _ (out₀ : List ℕ) (m : ℕ) (out : List ℕ) (i q at : ℕ) (l : Left out₀ m out i q at) where
-  -- there is room for the node and what follows
-  room_for : 0 < q → at + length (id_text i q) + length (ids_left (i + 1) (q / 2)) ≤ length out
-  room_for h = omega (arith, l.place, l.same, l.room, left_step i q l.walk h)
+  module _ (h : i < 64) where
+    -- there is room for the node and what follows
+    room_for : at + length (id_text i q) + length (ids_left (i + 1) (q / 2)) ≤ length out
+    room_for = omega (arith, l.place, l.same, l.room, left_step i q l.fits h)
 
-  fits : 0 < q → at + length (id_text i q) ≤ length out
-  fits h = omega (arith, room_for h)
+    fits : at + length (id_text i q) ≤ length out
+    fits = omega (arith, room_for)
 
-  -- what is lent to the node
-  lent_room : 0 < q → length (id_text i q) ≤ length (take (length out - at) (drop at out))
-  lent_room h = rw (rest out at) (omega (arith, fits h, length-drop at out))
+    -- what is lent to the node
+    lent_room : length (id_text i q) ≤ length (take (length out - at) (drop at out))
+    lent_room = rw (rest out at) (omega (arith, fits, length-drop at out))
 
-  -- a turn
-  turn : 0 < q → Left out₀ m (at_place at (id_text i q) out) (i + 1) (q / 2) (at + length (id_text i q))
-  turn h =
-      record {
-        walk = step i q l.walk h;
-        place = omega (arith, l.place, left_step i q l.walk h);
-        same = length_place at (id_text i q) out (fits h) ∙ l.same;
-        room = l.room;
-        promised =
-            place_place at (id_text i q) out (fits h) (ids_left (i + 1) (q / 2)) (room_for h)
-            ∙ ap (λ w. at_place at w out) (sym (left_split i q l.walk h))
-            ∙ l.promised;
-      }
+    -- a turn
+    turn : Left out₀ m (at_place at (id_text i q) out) (i + 1) (q / 2) (at + length (id_text i q))
+    turn =
+        record {
+          fits = left_fits i q l.fits h;
+          place = omega (arith, l.place, left_step i q l.fits h);
+          same = length_place at (id_text i q) out fits ∙ l.same;
+          room = l.room;
+          promised =
+              place_place at (id_text i q) out fits (ids_left (i + 1) (q / 2)) room_for
+              ∙ ap (λ w. at_place at w out) (sym (left_split i q l.fits h))
+              ∙ l.promised;
+        }
 
   -- with nothing left all is written
   done : q ≡ 0 → Written (member_text m) out₀ out at
@@ -68,38 +69,33 @@ returns-then-m-eq0 c =
     let h : 0 < length a.out.now = omega (arith, ap length e) in
     rw e (record { count = refl; bytes = set_place 0 45 a.out.now h })
 
-pub loop-q-init : goal.loop-q-init
-loop-q-init c =
+pub loop-i-init : goal.loop-i-init
+loop-i-init c =
     let a = c.args in
     begin a.out.now a.m (omega arith) c.if-m-eq0.false c.requires
 
 pub slice_bounds-put_id-count : goal.slice_bounds-put_id-count
-slice_bounds-put_id-count c = omega (arith, room_for _ _ _ _ _ _ c.loop-q.invariant c.loop-q-test.true)
-
-pub slice_bounds-put_id-start : goal.slice_bounds-put_id-start
-slice_bounds-put_id-start c = omega (arith, room_for _ _ _ _ _ _ c.loop-q.invariant c.loop-q-test.true)
+slice_bounds-put_id-count c = omega (arith, fits _ _ _ _ _ _ c.loop-i.invariant c.loop-i-test.true)
 
 pub put_id-at-requires : goal.put_id-at-requires
-put_id-at-requires c = lent_room _ _ _ _ _ _ c.loop-q.invariant c.loop-q-test.true
+put_id-at-requires c = lent_room _ _ _ _ _ _ c.loop-i.invariant c.loop-i-test.true
 
 pub overflow_add-at : goal.overflow_add-at
 overflow_add-at c =
-    let l = c.loop-q in
-    omega (arith, fits _ _ _ _ _ _ l.invariant c.loop-q-test.true, c.put_id-at.ensures.count, l.invariant.same)
+    let l = c.loop-i in
+    omega (arith, fits _ _ _ _ _ _ l.invariant c.loop-i-test.true, c.put_id-at.ensures.count, l.invariant.same)
 
-pub overflow_add-i : goal.overflow_add-i
-overflow_add-i c =
-    omega (arith, below_64 _ _ c.loop-q.invariant.walk c.loop-q-test.true)
-
-pub loop-q-preserved : goal.loop-q-preserved
-loop-q-preserved c =
+pub loop-i-preserved : goal.loop-i-preserved
+loop-i-preserved c =
     let p = c.put_id-at in
-    let l = c.loop-q in
-    rw (p.ensures.count, p.ensures.bytes, lent l.at (id_text l.i l.q) l.out (fits _ _ _ _ _ _ l.invariant c.loop-q-test.true))
-    (turn _ _ _ _ _ _ l.invariant c.loop-q-test.true)
+    let l = c.loop-i in
+    rw (p.ensures.count, p.ensures.bytes, lent l.at (id_text l.i l.q) l.out (fits _ _ _ _ _ _ l.invariant c.loop-i-test.true))
+    (turn _ _ _ _ _ _ l.invariant c.loop-i-test.true)
 
-pub shape_of-out : goal.shape_of-out
-shape_of-out c = c.loop-q.invariant.same
+pub returns-after-loop-i : goal.returns-after-loop-i
+returns-after-loop-i c =
+    let l = c.loop-i in
+    done _ _ _ _ _ _ l.invariant (left_end l.i l.q c.loop-i-test.false l.invariant.fits)
 
-pub returns : goal.returns
-returns c = let z : c.loop-q.q ≡ 0 = omega arith in done _ _ _ _ _ _ c.loop-q.invariant z
+pub returns-then-q-eq0 : goal.returns-then-q-eq0
+returns-then-q-eq0 c = done _ _ _ _ _ _ c.loop-i.invariant c.if-q-eq0.true

@@ -1,11 +1,7 @@
--- The loop keeps the members of the records passed, and stops where the set is at its end.
-use Prim.Native.Nat.{◌-◌, ◌<◌, ◌≤◌}
-use Rattle.meanings.specs.Table.{records}
-use Rattle.plans.proofs.Naming.{Gathered}
+-- Of each record its members are gathered; then the next are those of what is left.
+use mathlib.Core.Path.{◌≡◌}
+use Rattle.plans.proofs.Naming.{Gathering}
 use Rattle.plans.proofs.named.Given as goal
 
-abbrev pub invariant-loop-all : goal.invariant-loop-all
-invariant-loop-all l = (l.r < l.i) × (l.i ≤ records l.t) × Gathered l.t l.all l.r l.i
-
-abbrev pub decreases-loop-all : goal.decreases-loop-all
-decreases-loop-all l = records l.t - l.i
+abbrev pub invariant-loop-record : goal.invariant-loop-record
+invariant-loop-record l = (l.record-iterator.size ≡ 2) × Gathering l.set l.all l.record-iterator.rest.now

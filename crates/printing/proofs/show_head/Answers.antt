@@ -30,7 +30,7 @@ pub show-requires : goal.show-requires
 show-requires g c =
     let t = c.args.table.now in
     let line : line_of c.nodes-nodes.result ≡ first t =
-    c.nodes-nodes.ensures.comes ∙ nodes-told c.of_checked.result _ (subst (Shows c.of_checked.result) c.check_table.ensures c.of_checked.ensures) in
+    c.nodes-nodes.ensures.comes ∙ nodes-told c.reply.result _ (subst (Shows c.reply.result) c.check_table.ensures c.reply.ensures) in
     (stands_as (report_on t) 0 _ _ (sym line) (stands_first (report_on t) 0 (first t) (second t) (stands_head t)), omega arith, omega (arith, c.nodes-nodes.ensures.long))
 
 pub returns-in_err-to : goal.returns-in_err-to
@@ -40,11 +40,11 @@ pub show-requires-2 : goal.show-requires-2
 show-requires-2 g c =
     let t = c.args.table.now in
     let line : line_of c.nodes-nodes.result ≡ first t =
-    c.nodes-nodes.ensures.comes ∙ nodes-told c.of_checked.result _ (subst (Shows c.of_checked.result) c.check_table.ensures c.of_checked.ensures) in
+    c.nodes-nodes.ensures.comes ∙ nodes-told c.reply.result _ (subst (Shows c.reply.result) c.check_table.ensures c.reply.ensures) in
     let shown : (c.in_ok-to.to ≡ 0 + length (first t)) × (c.in_ok-to.to ≤ 0 + 1092) =
     handed_up (first t) 0 1092 c.show.result c.in_ok-to.to c.in_ok-to.was (handed_as _ _ _ _ _ line c.show.ensures) in
     let next : line_of c.verdict-line.result ≡ second t =
-    c.verdict-line.ensures.comes ∙ verdict-told c.of_verdict.result _ (subst (Shows c.of_verdict.result) c.intersect-verdict.ensures.told c.of_verdict.ensures) in
+    c.verdict-line.ensures.comes ∙ verdict-told c.reply-2.result _ (subst (Shows c.reply-2.result) c.intersect-verdict.ensures.told c.reply-2.ensures) in
     (stands_as (report_on t) _ _ _ (sym next) (stands_second (report_on t) 0 (first t) (second t) _ shown.0 (stands_head t)), omega (arith, shown.1), omega (arith, c.verdict-line.ensures.long))
 
 pub returns : goal.returns
@@ -52,9 +52,9 @@ unfolding head_part
 returns g c =
     let t = c.args.table.now in
     let line : line_of c.nodes-nodes.result ≡ first t =
-    c.nodes-nodes.ensures.comes ∙ nodes-told c.of_checked.result _ (subst (Shows c.of_checked.result) c.check_table.ensures c.of_checked.ensures) in
+    c.nodes-nodes.ensures.comes ∙ nodes-told c.reply.result _ (subst (Shows c.reply.result) c.check_table.ensures c.reply.ensures) in
     let shown : (c.in_ok-to.to ≡ 0 + length (first t)) × (c.in_ok-to.to ≤ 0 + 1092) =
     handed_up (first t) 0 1092 c.show.result c.in_ok-to.to c.in_ok-to.was (handed_as _ _ _ _ _ line c.show.ensures) in
     let next : line_of c.verdict-line.result ≡ second t =
-    c.verdict-line.ensures.comes ∙ verdict-told c.of_verdict.result _ (subst (Shows c.of_verdict.result) c.intersect-verdict.ensures.told c.of_verdict.ensures) in
+    c.verdict-line.ensures.comes ∙ verdict-told c.reply-2.result _ (subst (Shows c.reply-2.result) c.intersect-verdict.ensures.told c.reply-2.ensures) in
     handed_more (first t) (second t) 0 1092 _ 1092 shown c.show-2.result (handed_as _ _ _ _ _ next c.show-2.ensures)

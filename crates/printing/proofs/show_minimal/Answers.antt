@@ -1,27 +1,20 @@
 -- The lines are the list's part of the report.
-use native.Mathlib.Omega.{arith}
-use Prim.Native.Nat.{ℕ}
-use mathlib.Core.Path.{◌≡◌, sym, ap, ◌∙◌}
-use lib.ListN.{take, length-take}
-use Rattle.words.specs.Words.{word_text}
-use Rattle.words.specs.Words as word
-use Rattle.report_parts.specs.Parts.{list_text}
+use mathlib.Core.Path.{◌≡◌, sym}
+use Rattle.words.specs.declared.Word.TheVariants.{Minimal, Q}
+use Rattle.report_parts.specs.Parts.{text_of}
 use Rattle.report.specs.Report.{minimal_part}
+use Rattle.report.proofs.Parts.{text_is}
 use Rattle.printing.proofs.Laws.{stands_as, handed_as}
 use Rattle.printing.proofs.show_minimal.Goals as goal
 
 pub show_list-requires : goal.show_list-requires
-unfolding word_text
 show_list-requires g c =
     let m = c.minimal-listed in
-    let part : list_text word.minimal word.q m.result (take c.following-k.result m.new.sets) ≡ minimal_part c.args.table.now =
-    ap (λ (x : ℕ). list_text word.minimal word.q m.result (take x m.new.sets)) c.following-k.ensures ∙ m.ensures.comes in
-    (stands_as _ _ _ _ (sym part) c.requires.0, c.requires.1, omega (arith, length-take c.following-k.result m.new.sets, c.following-k.ensures, m.ensures.few))
+    let part : text_of c.list-list.result ≡ minimal_part c.args.table.now = text_is Minimal Q m.result m.new.sets _ _ c.list-list.ensures m.ensures in
+    (stands_as _ _ _ _ (sym part) c.requires.0, c.requires.1)
 
 pub returns : goal.returns
-unfolding word_text
 returns g c =
     let m = c.minimal-listed in
-    let part : list_text word.minimal word.q m.result (take c.following-k.result m.new.sets) ≡ minimal_part c.args.table.now =
-    ap (λ (x : ℕ). list_text word.minimal word.q m.result (take x m.new.sets)) c.following-k.ensures ∙ m.ensures.comes in
+    let part : text_of c.list-list.result ≡ minimal_part c.args.table.now = text_is Minimal Q m.result m.new.sets _ _ c.list-list.ensures m.ensures in
     handed_as _ _ _ _ _ part c.show_list.ensures

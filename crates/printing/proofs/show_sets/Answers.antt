@@ -15,35 +15,34 @@ use Rattle.printing.proofs.show_sets.Goals as goal
 pub show-requires : goal.show-requires
 show-requires g c =
     let a = c.args in
-    let l = c.loop-i in
+    let l = c.loop-set in
     let v = l.invariant in
-    let its_line : List ℕ = set_line (word_text a.letter) (get_or a.sets.now l.i 0) in
-    let rest : List ℕ = set_lines (word_text a.letter) (drop (l.i + 1) a.sets.now) in
+    let its_line : List ℕ = set_line (word_text a.letter) (get_or a.sets.now l.set-index 0) in
+    let rest : List ℕ = set_lines (word_text a.letter) (drop (l.set-index + 1) a.sets.now) in
     let stands_next : Stands (report_on a.table.now) l.place (its_line ++ rest) =
-    stands_as _ _ _ _ (next_set (word_text a.letter) a.sets.now l.i c.loop-i-test.true) v.stands in
-    (stands_as _ _ _ _ (sym c.one-line.ensures.comes) (stands_first _ _ its_line rest stands_next), omega (arith, v.within, v.low, v.turn, v.few), omega (arith, c.one-line.ensures.long))
+    stands_as _ _ _ _ (next_set (word_text a.letter) a.sets.now l.set-index c.loop-set-test.true) v.stands in
+    (stands_as _ _ _ _ (sym c.one-line.ensures.comes) (stands_first _ _ its_line rest stands_next), omega (arith, v.within, v.low, v.few, c.loop-set-test.true), omega (arith, c.one-line.ensures.long))
 
-pub returns-in_err-to : goal.returns-in_err-to
-returns-in_err-to g c = handed_none _ _ _ _ c.from_residual.ensures.0
+pub returns-in_err-place : goal.returns-in_err-place
+returns-in_err-place g c = handed_none _ _ _ _ c.from_residual.ensures.0
 
-pub loop-i-preserved : goal.loop-i-preserved
-loop-i-preserved g c =
+pub loop-set-preserved : goal.loop-set-preserved
+loop-set-preserved g c =
     let a = c.args in
-    let l = c.loop-i in
+    let l = c.loop-set in
     let v = l.invariant in
     let w = word_text a.letter in
     let x = a.sets.now in
-    let its_line : List ℕ = set_line w (get_or x l.i 0) in
-    let rest : List ℕ = set_lines w (drop (l.i + 1) x) in
+    let its_line : List ℕ = set_line w (get_or x l.set-index 0) in
+    let rest : List ℕ = set_lines w (drop (l.set-index + 1) x) in
     let stands_next : Stands (report_on a.table.now) l.place (its_line ++ rest) =
-    stands_as _ _ _ _ (next_set w x l.i c.loop-i-test.true) v.stands in
-    let shown : (c.in_ok-to.to ≡ l.place + length its_line) × (c.in_ok-to.to ≤ l.place + 1092) =
-    handed_up its_line l.place 1092 c.show.result c.in_ok-to.to c.in_ok-to.was (handed_as _ _ _ _ _ c.one-line.ensures.comes c.show.ensures) in
+    stands_as _ _ _ _ (next_set w x l.set-index c.loop-set-test.true) v.stands in
+    let shown : (c.in_ok-place.place ≡ l.place + length its_line) × (c.in_ok-place.place ≤ l.place + 1092) =
+    handed_up its_line l.place 1092 c.show.result c.in_ok-place.place c.in_ok-place.was (handed_as _ _ _ _ _ c.one-line.ensures.comes c.show.ensures) in
     record {
-      turn = omega (arith, c.loop-i-test.true);
       few = v.few;
       stands = stands_second _ _ its_line rest _ shown.0 stands_next;
-      counted = omega (arith, v.counted, shown.0, length_next w x l.i c.loop-i-test.true);
+      counted = omega (arith, v.counted, shown.0, length_next w x l.set-index c.loop-set-test.true);
       within = omega (arith, v.within, shown.1);
       low = v.low;
     }
@@ -52,6 +51,6 @@ pub returns : goal.returns
 unfolding Handed
 returns g c =
     let a = c.args in
-    let v = c.loop-i.invariant in
-    let n = no_set (word_text a.letter) a.sets.now c.loop-i.i (omega (arith, c.loop-i-test.false)) in
-    (omega (arith, v.counted, ap (length {A = ℕ}) n), omega (arith, v.within, v.turn, v.few))
+    let v = c.loop-set.invariant in
+    let n = no_set (word_text a.letter) a.sets.now c.loop-set.set-index (omega (arith, c.loop-set-test.false)) in
+    (omega (arith, v.counted, ap (length {A = ℕ}) n), omega (arith, v.within, v.few, c.loop-set.auto.set-index-end))

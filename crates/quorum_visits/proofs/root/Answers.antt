@@ -17,12 +17,12 @@ with_greatest u g = record { c = nobody; r = u; g = g; due = nobody; grown = tru
 
 pub greatest_within-requires : goal.greatest_within-requires
 greatest_within-requires c =
-    (c.requires.0, all_due c.args.t.now c.args.d c.args.u nobody c.requires.1 c.requires.2 (none_within c.args.u))
+    all_due c.args.plan.now c.args.d c.args.u nobody c.requires.0 c.requires.1 (none_within c.args.u)
 
 pub returns : goal.returns
 returns c =
-    let T = c.args.t.now in
+    let T = c.args.plan.now in
     let e = c.greatest_within.ensures ∙ sym (holding-nobody (greatest (nodes T) (satisfied T) c.args.d c.args.u)) in (
-      starts T c.args.plan.now c.args.d c.args.u c.greatest_within.result c.requires.0 c.requires.1 c.greatest_within.ensures,
+      starts T c.args.d c.args.u c.greatest_within.result c.requires.0 c.greatest_within.ensures,
       ap (λ (x : ℕ). with_greatest c.args.u x) e,
     )

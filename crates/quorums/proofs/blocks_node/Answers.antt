@@ -1,58 +1,44 @@
 -- The table's faults first, then 8 for the set or the node, each handed on whatever the answer would be; then the answer.
-use mathlib.Core.Path.{◌∙◌, ap, subst}
-use Prim.Native.Nat.{ℕ, ◌<◌, ◌≤◌}
+use mathlib.Core.Path.{sym, ap, ◌∙◌}
+use Prim.Native.Nat.{◌<◌, ◌≤◌}
+use native.Mathlib.Omega.{arith}
 use lib.Dec.{ltb}
 use borrow.Author.Tests.{lt-ltb, le-ltb}
+use Rattle.std.proofs.lemmas.Result.{err_from_is_err_and}
 use Rattle.meanings.specs.Table.{nodes}
 use Rattle.meanings.specs.Questions.{yes_or_no, blocks_reply}
-use Rattle.faults.proofs.Known.{fault_known}
-use Rattle.faults.proofs.Opening.{Passed, past_check, set_outside, then_outside, then_answered}
+use Rattle.faults.proofs.Opening.{past_check, set_outside, then_outside, then_answered}
+use Rattle.quorums.proofs.Meaning.{says_yes}
 use Rattle.quorums.proofs.blocks_node.Goals as goal
 
-pub returns-in_default : goal.returns-in_default
+pub returns-in_err-table : goal.returns-in_err-table
 unfolding blocks_reply
-returns-in_default c =
-    fault_known c.args.table.now c.check_table-checked.result c.check_table-checked.ensures c.fault_of.result c.fault_of.ensures _
-
-pub inside-requires : goal.inside-requires
-inside-requires c =
-    let passed : Passed c.args.table.now c.in-Sound.nodes =
-    past_check c.args.table.now c.check_table-checked.result c.check_table-checked.ensures c.in-Sound.nodes c.in-Sound.records c.in-Sound.is in
-    passed.few
+returns-in_err-table c =
+    let p = err_from_is_err_and c.from_residual.result c.from_residual.ensures.1 in
+    rw (p.1, p.2) (c.in_err-table.ensures _)
 
 pub returns-then-not-inside : goal.returns-then-not-inside
 unfolding blocks_reply
 returns-then-not-inside c =
-    let passed : Passed c.args.table.now c.in-Sound.nodes =
-    past_check c.args.table.now c.check_table-checked.result c.check_table-checked.ensures c.in-Sound.nodes c.in-Sound.records c.in-Sound.is in
-    set_outside c.args.table.now c.in-Sound.nodes passed c.args.set c.inside.result c.inside.ensures c.if-not-inside.true-raw _
+    let passed = past_check c.in_ok-table.ensures c.nodes.ensures in
+    set_outside passed c.args.set (sym c.if-not-inside.true ∙ c.inside.ensures) _
 
 pub returns-then-nodes-node : goal.returns-then-nodes-node
 unfolding blocks_reply
 returns-then-nodes-node c =
-    let passed : Passed c.args.table.now c.in-Sound.nodes =
-    past_check c.args.table.now c.check_table-checked.result c.check_table-checked.ensures c.in-Sound.nodes c.in-Sound.records c.in-Sound.is in
-    let t = c.args.table.now in
-    then_outside t c.in-Sound.nodes passed c.args.set c.inside.result c.inside.ensures c.if-not-inside.false-raw (ltb c.args.node (nodes t))
-    (le-ltb c.args.node (nodes t) (subst (λ (k : ℕ). k ≤ c.args.node) passed.nodes_are c.if-nodes-node.true)) _
-
-pub blocked-requires : goal.blocked-requires
-blocked-requires c =
-    let passed : Passed c.args.table.now c.in-Sound.nodes =
-    past_check c.args.table.now c.check_table-checked.result c.check_table-checked.ensures c.in-Sound.nodes c.in-Sound.records c.in-Sound.is in
-    let node_inside : c.args.node < nodes c.args.table.now =
-    subst (λ (k : ℕ). c.args.node < k) passed.nodes_are c.if-nodes-node.false in
-    (passed.checked, node_inside)
+    let passed = past_check c.in_ok-table.ensures c.nodes.ensures in
+    let n = nodes c.args.table.now in
+    let again = past_check c.in_ok-table.ensures c.nodes-2.ensures in
+    let over : n ≤ c.args.node = omega (arith, again.nodes_are, c.if-nodes-node.true) in
+    then_outside passed c.args.set (sym c.if-not-inside.false ∙ c.inside.ensures) (ltb c.args.node n) (le-ltb c.args.node n over) _
 
 pub returns : goal.returns
 unfolding blocks_reply
 returns c =
-    let passed : Passed c.args.table.now c.in-Sound.nodes =
-    past_check c.args.table.now c.check_table-checked.result c.check_table-checked.ensures c.in-Sound.nodes c.in-Sound.records c.in-Sound.is in
-    let node_inside : c.args.node < nodes c.args.table.now =
-    subst (λ (k : ℕ). c.args.node < k) passed.nodes_are c.if-nodes-node.false in
-    let t = c.args.table.now in
-    c.yes_or_no.ensures
-    ∙ ap yes_or_no c.blocked.ensures
-    ∙ then_answered t c.in-Sound.nodes passed c.args.set c.inside.result c.inside.ensures c.if-not-inside.false-raw (ltb c.args.node (nodes t))
-    (lt-ltb c.args.node (nodes t) node_inside) _
+    let passed = past_check c.in_ok-table.ensures c.nodes.ensures in
+    let n = nodes c.args.table.now in
+    let again = past_check c.in_ok-table.ensures c.nodes-2.ensures in
+    let under : c.args.node < n = omega (arith, again.nodes_are, c.if-nodes-node.false) in
+    says_yes c.blocked.result
+    ∙ ap yes_or_no (rw c.in_ok-table.ensures.0 at c.blocked.ensures)
+    ∙ then_answered passed c.args.set (sym c.if-not-inside.false ∙ c.inside.ensures) (ltb c.args.node n) (lt-ltb c.args.node n under) _

@@ -1,11 +1,7 @@
--- The records of all nodes are found, and the set is one of nodes, which is all that the rounds ask.
-use Prim.Native.Nat.{◌<◌, ◌^◌}
+-- The set is one of nodes, which is all that the rounds ask.
 use Rattle.meanings.specs.Table.{nodes}
 use Rattle.faults.proofs.Opening.{inside_lt}
-use borrow.Author.Rules.{rules}
 use Rattle.quorums.proofs.greatest_of.Goals as goal
 
-pub survivors-left-requires : goal.survivors-left-requires
-survivors-left-requires c =
-    let h : c.args.set < 2 ^ nodes c.args.t.now = inside_lt c.args.set (nodes c.args.t.now) c.requires.1 in
-    search rules
+pub survivors-requires : goal.survivors-requires
+survivors-requires c = rw c.new.ensures (inside_lt c.args.set (nodes c.args.t.now) c.requires)

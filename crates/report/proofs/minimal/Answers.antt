@@ -3,5 +3,4 @@ use Rattle.report.proofs.Parts.{minimal_part_lem}
 use Rattle.report.proofs.minimal.Goals as goal
 
 pub returns : goal.returns
-returns c =
-    minimal_part_lem _ _ _ c.minimal_quorums.result c.of_listed.result c.requires c.of_listed.ensures c.minimal_quorums.ensures
+returns c = minimal_part_lem _ _ _ c.minimal_quorums.result c.reply.result c.requires c.reply.ensures c.minimal_quorums.ensures

@@ -15,24 +15,24 @@ pub returns-in_default : goal.returns-in_default
 returns-in_default c =
     let r = c.read_sheet-read in
     let a = c.args in
-    let e = refused-told c.of_read.result _ c.of_read.ensures ∙ bad_sheet _ _ _ r.result r.ensures refl c.in_default.not-Words in
+    let e = refused-told c.reply.result _ c.reply.ensures ∙ bad_sheet _ _ _ r.result r.ensures refl _ c.in_default.is in
     subst (λ (x : List ℕ). Put x a.out.now c.report_refused.new.out (wrote_says c.report_refused.result)) e c.report_refused.ensures
 
 pub slice_bounds-table-end : goal.slice_bounds-table-end
 slice_bounds-table-end c =
     let r = c.read_sheet-read in
-    let h = words_within _ _ _ _ r.ensures refl _ c.in-Words.is in
+    let h = words_within _ _ _ _ r.ensures refl _ c.in-Ok.is in
     search (rules, h)
 
 pub slice_bounds-report_table-end : goal.slice_bounds-report_table-end
 slice_bounds-report_table-end c =
     let r = c.read_sheet-read in
-    let h = words_within _ _ _ _ r.ensures refl _ c.in-Words.is in
-    sym (length-take-le c.in-Words.count r.new.table (omega (arith, h, r.auto.table)))
+    let h = words_within _ _ _ _ r.ensures refl _ c.in-Ok.is in
+    sym (length-take-le c.in-Ok.count r.new.table (omega (arith, h, r.auto.table)))
 
 pub returns : goal.returns
 returns c =
     let r = c.read_sheet-read in
     let a = c.args in
     subst (λ (x : List ℕ). Put x a.out.now c.report_table.new.out (wrote_says c.report_table.result))
-    (good_sheet _ _ _ _ r.ensures refl _ c.in-Words.is) c.report_table.ensures
+    (good_sheet _ _ _ _ r.ensures refl _ c.in-Ok.is) c.report_table.ensures

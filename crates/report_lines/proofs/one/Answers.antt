@@ -1,10 +1,9 @@
 -- The fields are those of the line.
 use mathlib.Core.Path.{refl}
-use Rattle.words.specs.Words.{word_text}
-use Rattle.fields.specs.Fields.{field_text, texts, line_of}
+use Rattle.fields.specs.Fields.{texts, line_of}
 use Rattle.report_lines.specs.Lines.{set_line}
 use Rattle.report_lines.proofs.one.Goals as goal
 
 pub returns : goal.returns
-unfolding set_line line_of texts field_text word_text
+unfolding set_line line_of texts
 returns c = record { long = refl; comes = refl }

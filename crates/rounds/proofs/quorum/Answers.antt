@@ -5,14 +5,12 @@ use Rattle.theory.proofs.Tests.{no-nodes, counted_out, as_settled}
 use Rattle.rounds.proofs.quorum.Goals as goal
 
 pub returns-then-c-eq0 : goal.returns-then-c-eq0
-returns-then-c-eq0 c =
-    no-nodes (nodes c.args.t.now) (satisfied c.args.t.now) c.args.d c.args.c c.if-c-eq0.true
+returns-then-c-eq0 c = no-nodes (nodes c.args.heads.now) (satisfied c.args.heads.now) c.args.d c.args.c c.if-c-eq0.true
 
 pub returns-then-c-d-ne0 : goal.returns-then-c-d-ne0
-returns-then-c-d-ne0 c =
-    counted_out (nodes c.args.t.now) (satisfied c.args.t.now) c.args.d c.args.c c.if-c-d-ne0.true c.requires.inside
+returns-then-c-d-ne0 c = counted_out (nodes c.args.heads.now) (satisfied c.args.heads.now) c.args.d c.args.c c.if-c-d-ne0.true c.requires
 
 pub returns : goal.returns
 returns c =
     c.settled.ensures
-    ∙ as_settled (nodes c.args.t.now) (satisfied c.args.t.now) c.args.d c.args.c c.if-c-eq0.false c.if-c-d-ne0.false c.requires.inside
+    ∙ as_settled (nodes c.args.heads.now) (satisfied c.args.heads.now) c.args.d c.args.c c.if-c-eq0.false c.if-c-d-ne0.false c.requires

@@ -4,56 +4,28 @@ use Prim.Native.Nat.{ℕ}
 use native.Mathlib.Omega.{arith}
 use mathlib.Core.Path.{refl, sym, ap₂, ◌∙◌, subst}
 use mathlib.Core.Logic.{⊎_elim, inl, inr}
-use borrow.Author.Tests.{eqb-false}
 use Rattle.sets.specs.Sets.{◌∪◌, set_of}
-use Rattle.tables.proofs.Sound.{sound_table}
 use Rattle.rounds.proofs.Laws.{one_stays, one_goes, gathered, Standing, none_left, start, last, fewer, again}
 use Rattle.rounds.proofs.survivors.Goals.{then-contains+then-satisfied, else-contains, else-contains-via-then-contains+else-satisfied, else-contains-via-else-contains}
 use Rattle.rounds.proofs.survivors.Goals as goal
 
 pub returns-then-present-eq0 : goal.returns-then-present-eq0
 returns-then-present-eq0 c =
-    none_left c.args.t.now c.args.d c.args.u (sym c.without-present.ensures ∙ c.if-present-eq0.true) c.requires.inside
+    none_left c.args.heads.now c.args.d c.args.u (sym c.without-present.ensures ∙ c.if-present-eq0.true) c.requires
 
 pub rounds-init : goal.rounds-init
 rounds-init c =
     let e = c.without-present.ensures in
-    subst (λ (x : ℕ). Standing c.args.t.now c.args.d c.args.u x 0) (sym e)
-    (start c.args.t.now c.args.d c.args.u (λ z. c.if-present-eq0.false (e ∙ z)) c.requires.inside)
+    subst (λ (x : ℕ). Standing c.args.heads.now c.args.d c.args.u x 0) (sym e)
+    (start c.args.heads.now c.args.d c.args.u (λ z. c.if-present-eq0.false (e ∙ z)) c.requires)
 
 pub loop-v-init : goal.loop-v-init
 unfolding set_of
 loop-v-init c = (omega arith, refl)
 
-pub overflow_add-result : goal.overflow_add-result
-overflow_add-result c =
-    let w = c.rounds.invariant.few in
-    let m = (sound_table c.args.t.now c.requires.headed.checked).nodes-le in
-    omega arith
-
-pub contains-requires : goal.contains-requires
-contains-requires c =
-    let m = (sound_table c.args.t.now c.requires.headed.checked).nodes-le in
-    omega (arith, c.requires.all-nodes, c.loop-v.invariant.0, c.if-v-nodes.false)
-
-pub satisfied-requires : goal.satisfied-requires
-satisfied-requires c =
-    (c.requires.headed, omega (arith, c.requires.all-nodes, c.loop-v.invariant.0, c.if-v-nodes.false))
-
-pub one-keep-requires : goal.one-keep-requires
-one-keep-requires c =
-    let m = (sound_table c.args.t.now c.requires.headed.checked).nodes-le in
-    omega (arith, c.requires.all-nodes, c.loop-v.invariant.0, c.if-v-nodes.false)
-
-pub overflow_add-v : goal.overflow_add-v
-overflow_add-v c = omega (arith, c.loop-v.invariant.0, c.if-v-nodes.false)
-
-pub loop-v-smaller : goal.loop-v-smaller
-loop-v-smaller c = omega (arith, c.loop-v.invariant.0, c.if-v-nodes.false)
-
 pub loop-v-preserved : goal.loop-v-preserved
 loop-v-preserved c =
-    let t = c.args.t.now in
+    let t = c.args.heads.now in
     let v = c.loop-v.v in
     let present = c.rounds.present in
     let with = present ∪ c.args.d in
@@ -71,25 +43,21 @@ loop-v-preserved c =
       ],
     )
 
-pub overflow_add-count : goal.overflow_add-count
-overflow_add-count c =
-    let w = c.rounds.invariant.few in
-    let m = (sound_table c.args.t.now c.requires.headed.checked).nodes-le in
-    omega arith
-
 pub rounds-smaller : goal.rounds-smaller
 rounds-smaller c =
-    let k = gathered c.args.t.now c.args.nodes c.args.d c.rounds.present c.loop-v.keep c.loop-v.v c.requires.all-nodes c.if-v-nodes.true c.loop-v.invariant.1 in
-    fewer c.args.t.now c.args.d c.args.u c.rounds.present c.rounds.count c.loop-v.keep c.rounds.invariant k c.if-keep-present.false
+    let n = rw c.table.ensures.reads at c.nodes-nodes.ensures.reads in
+    let k = gathered c.args.heads.now c.nodes-nodes.result c.args.d c.rounds.present c.loop-v.keep c.loop-v.v n.0 c.if-v-nodes.true c.loop-v.invariant.1 in
+    fewer c.args.heads.now c.args.d c.args.u c.rounds.present c.rounds.count c.loop-v.keep c.rounds.invariant k c.if-keep-present.false
 
 pub rounds-preserved : goal.rounds-preserved
 rounds-preserved c =
-    let k = gathered c.args.t.now c.args.nodes c.args.d c.rounds.present c.loop-v.keep c.loop-v.v c.requires.all-nodes c.if-v-nodes.true c.loop-v.invariant.1 in
-    again c.args.t.now c.args.d c.args.u c.rounds.present c.rounds.count c.loop-v.keep c.rounds.invariant k c.if-keep-present.false
-    (eqb-false c.loop-v.keep 0 c.if-keep-eq0.false-raw)
+    let n = rw c.table.ensures.reads at c.nodes-nodes.ensures.reads in
+    let k = gathered c.args.heads.now c.nodes-nodes.result c.args.d c.rounds.present c.loop-v.keep c.loop-v.v n.0 c.if-v-nodes.true c.loop-v.invariant.1 in
+    again c.args.heads.now c.args.d c.args.u c.rounds.present c.rounds.count c.loop-v.keep c.rounds.invariant k c.if-keep-present.false c.if-keep-eq0.false
 
 pub returns : goal.returns
 returns c =
-    let k = gathered c.args.t.now c.args.nodes c.args.d c.rounds.present c.loop-v.keep c.loop-v.v c.requires.all-nodes c.if-v-nodes.true c.loop-v.invariant.1 in
-    last c.args.t.now c.args.d c.args.u c.rounds.present c.rounds.count c.loop-v.keep c.rounds.invariant k
+    let n = rw c.table.ensures.reads at c.nodes-nodes.ensures.reads in
+    let k = gathered c.args.heads.now c.nodes-nodes.result c.args.d c.rounds.present c.loop-v.keep c.loop-v.v n.0 c.if-v-nodes.true c.loop-v.invariant.1 in
+    last c.args.heads.now c.args.d c.args.u c.rounds.present c.rounds.count c.loop-v.keep c.rounds.invariant k
     (⊎_elim (λ w. inl w) (λ w. inr w.1) c.then-keep-present.either)

@@ -8,13 +8,13 @@ use Rattle.rounds.proofs.Laws.{stays, Standing}
 use Rattle.rounds.proofs.survivors.Given as goal
 
 abbrev pub invariant-loop-v : goal.invariant-loop-v
-invariant-loop-v l = (l.v ≤ l.nodes) × (l.keep ≡ set_of l.v (stays l.t l.with l.present))
+invariant-loop-v l = (l.v ≤ l.nodes) × (l.keep ≡ set_of l.v (stays l.heads l.with l.present))
 
 abbrev pub decreases-loop-v : goal.decreases-loop-v
 decreases-loop-v l = l.nodes - l.v
 
 abbrev pub invariant-rounds : goal.invariant-rounds
-invariant-rounds l = Standing l.t l.d l.u l.present l.count
+invariant-rounds l = Standing l.heads l.d l.u l.present l.count
 
 abbrev pub decreases-rounds : goal.decreases-rounds
-decreases-rounds l = size (nodes_of l.t) l.present
+decreases-rounds l = size (nodes_of l.heads) l.present

@@ -1,31 +1,22 @@
 -- A fault of the table is handed on, and a sound table is put.
 use lib.ListN.{length}
-use Rattle.meanings.specs.Faults.{check, sound}
+use Rattle.std.proofs.lemmas.Result.{err_from_is_err_and}
+use Rattle.meanings.specs.Faults.{check}
 use Rattle.meanings.specs.Questions.{on_check}
-use Rattle.faults.proofs.Known.{sound_known, fault_known}
-use mathlib.Core.Path.{◌≡◌}
 use Rattle.sheets.specs.Sheets.{sheet_text, room_reply, write_reply}
 use Rattle.sheets.proofs.Filling.{refused_fault}
 use Rattle.sheets.proofs.write_sheet.Goals as goal
 
-pub returns-in_default : goal.returns-in_default
+pub returns-in_err-table : goal.returns-in_err-table
 unfolding write_reply
-returns-in_default c =
+returns-in_err-table c =
     let a = c.args in
     let t = a.table.now in
-    let f = c.fault_of.result in
+    let p = err_from_is_err_and c.from_residual.result c.from_residual.ensures.1 in
     let r = room_reply (sheet_text t) (length a.sheet.now) in
-    refused_fault (sheet_text t) a.sheet.now (on_check (check t) r) f (fault_known t c.check_table-checked.result c.check_table-checked.ensures f c.fault_of.ensures r)
-
-pub fill_sheet-requires : goal.fill_sheet-requires
-fill_sheet-requires c =
-    let found : check c.args.table.now ≡ sound =
-    (sound_known c.args.table.now c.check_table-checked.result c.check_table-checked.ensures _ _ c.in-Sound.is).0 in
-    found
+    rw (p.1, p.2)
+    (refused_fault (sheet_text t) a.sheet.now (on_check (check t) r) c.in_err-table.field-0.0 (c.in_err-table.ensures r))
 
 pub returns : goal.returns
 unfolding write_reply
-returns c =
-    let found : check c.args.table.now ≡ sound =
-    (sound_known c.args.table.now c.check_table-checked.result c.check_table-checked.ensures _ _ c.in-Sound.is).0 in
-    rw found c.fill_sheet.ensures
+returns c = let t = c.in_ok-table.ensures in rw t.1 (rw t.0 at c.fill_sheet.ensures)

@@ -7,4 +7,4 @@ use Rattle.tables.proofs.level.Goals as goal
 
 pub returns : goal.returns
 unfolding level control
-returns c = (refl, omega (arith, c.shared_slice_known-1.given (2 * c.args.r)))
+returns c = (refl, omega (arith, c.type_inv.t (2 * c.args.r)))

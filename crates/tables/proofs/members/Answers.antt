@@ -10,4 +10,4 @@ use Rattle.tables.proofs.members.Goals as goal
 pub returns : goal.returns
 unfolding members
 returns c =
-    (ap (λ (n : ℕ). get_or c.args.t.now n 0) (add-one (2 * c.args.r)), omega (arith, c.shared_slice_known-1.given (2 * c.args.r + 1)))
+    (ap (λ (n : ℕ). get_or c.args.t.now n 0) (add-one (2 * c.args.r)), omega (arith, c.type_inv.t (2 * c.args.r + 1)))

@@ -1,0 +1,5 @@
+-- Each call writes a number of one digit less.
+use Rattle.decimal.proofs.+put_number.Given as goal
+
+abbrev pub decreases-put_number : goal.decreases-put_number
+decreases-put_number l = l.n

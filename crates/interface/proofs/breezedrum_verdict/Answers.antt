@@ -1,7 +1,0 @@
--- The struct shows what the operation's answer says.
-use mathlib.Core.Path.{subst}
-use Rattle.replies.specs.Shows.{Shows}
-use Rattle.interface.proofs.breezedrum_verdict.Goals as goal
-
-pub returns : goal.returns
-returns c = subst (Shows c.of_verdict.result) c.intersect.ensures.told c.of_verdict.ensures

@@ -1,0 +1,19 @@
+-- The greatest quorum outside c is what lasts of it without v.
+use mathlib.Core.Path.{ap, ◌∙◌}
+use Prim.Native.Nat.{ℕ}
+use Rattle.sets.specs.Sets.{◌∖◌}
+use Rattle.listing_visits.proofs.Handed.{open_64, strikes_outside, take-blocking}
+use Rattle.listing_visits.proofs.take_blocking.Goals as goal
+
+pub one-one-requires : goal.one-one-requires
+one-one-requires c =
+    open_64 c.args.plan.now c.args.a c.requires.0 c.args.v c.requires.1
+
+pub greatest_without-requires : goal.greatest_without-requires
+greatest_without-requires c =
+    strikes_outside c.args.plan.now c.args.a c.requires.0 c.args.v c.requires.1
+
+pub returns : goal.returns
+returns c =
+    take-blocking c.args.plan.now c.args.a c.requires.0 c.args.v c.requires.1
+    c.one-one.result c.without.result c.greatest_without.result c.one-one.ensures (c.without.ensures ∙ ap (λ (x : ℕ). c.args.a.r ∖ x) c.one-one.ensures) c.greatest_without.ensures
