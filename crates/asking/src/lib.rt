@@ -10,6 +10,8 @@ use replies::Reply;
 use std::io;
 use std::io::{Read, Write};
 
+// There is no heap: what is lent and what is read are arrays here, with a slice of them or a count.
+
 // What a lent list holds, and a lent text.
 const BLANK_WORD: u64 = 0xA5A5A5A5A5A5A5A5;
 
@@ -141,6 +143,7 @@ fn put_text<W: Write>(out: &mut W, r: &Reply, text: &[u8; 4096]) -> io::Result<(
 }
 
 // A question that is lent so much of a list.
+// Its twin below lends bytes and prints a text behind the line; one function for both would be handed the printing too, which is no plainer.
 fn lend_list<W: Write, F: FnOnce(&mut [u64]) -> Reply>(
     out: &mut W,
     room: usize,

@@ -155,7 +155,7 @@ moved a b used n h f e =
 
 module _ (o s : List ℕ) where
   -- the lines are refused
-  was_stopped : (k p : ℕ) → sheet_lines s ≡ stops k p → (f : Refusal) → refusal_says f ≡ reply k (Place is p ∷ []) → (r : Result ℕ Refusal) → r ≡ Err f → WasRead r o
+  pub was_stopped : (k p : ℕ) → sheet_lines s ≡ stops k p → (f : Refusal) → refusal_says f ≡ reply k (Place is p ∷ []) → (r : Result ℕ Refusal) → r ≡ Err f → WasRead r o
   unfolding read_reply
   was_stopped k p e f t r j =
       record {
@@ -166,7 +166,7 @@ module _ (o s : List ℕ) where
 
   module _ (w : List ℕ) (first : ℕ) (e : sheet_lines s ≡ words w first) (t : take (length w) o ≡ w) (r : Result ℕ Refusal) where
     -- their records are refused
-    was_bad : (k p : ℕ) → check_lines first w ≡ fault k p → read_says r ≡ reply k (Place is p ∷ []) → WasRead r o
+    pub was_bad : (k p : ℕ) → check_lines first w ≡ fault k p → read_says r ≡ reply k (Place is p ∷ []) → WasRead r o
     unfolding read_reply
     was_bad k p c said =
         record {
@@ -180,7 +180,7 @@ module _ (o s : List ℕ) where
         }
 
     -- they are a sound table
-    was_good : length w ≤ 512 → check_lines first w ≡ sound → read_says r ≡ reply 0 (Count is length w ∷ []) → WasRead r o
+    pub was_good : length w ≤ 512 → check_lines first w ≡ sound → read_says r ≡ reply 0 (Count is length w ∷ []) → WasRead r o
     unfolding read_reply read_puts
     was_good fits c said =
         record {

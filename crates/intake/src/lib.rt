@@ -53,6 +53,7 @@ fn hear<R: io::Read>(from: &mut R, words: &mut [u64]) -> io::Result<Heard>
     requires { length words.old ≡ 512 }
     ensures { Hears words.new result }
 {
+    // No heap: the bytes of the window, and their count in `window`.
     let mut buf = [0u8; 512];
     let mut window = Window {
         count: 0,
@@ -95,6 +96,7 @@ fn hear<R: io::Read>(from: &mut R, words: &mut [u64]) -> io::Result<Heard>
 fn skip<R: io::Read>(from: &mut R, n: usize) -> io::Result<usize>
     requires { n ≤ 512 }
 {
+    // No heap: room for as much as is read at once.
     let mut buf = [0u8; 512];
     input::read_all(from, &mut buf[..n])
 }

@@ -11,7 +11,7 @@ use lib.Seq.{take_at}
 use Rattle.decimal.specs.Bytes.{Written}
 use Rattle.std.specs.Prelude.{Result, Ok, Err, IsErr}
 use Rattle.std.specs.declared.io.Error.{Error}
-use Rattle.printing.specs.Printing.{Stands, Handed, All, Counts}
+use Rattle.printing.specs.Printing.{Stands, Handed, All, counted_is}
 
 -- what was written at the front is what is handed over
 pub front_taken : (w d o : List ℕ) (n : ℕ) → Written w d o n → take n o ≡ w
@@ -81,8 +81,8 @@ all_none text (Ok to) e = let z : false ≡ true = e in cc
 all_none text (Err x) e = tt
 
 -- what is counted of a part is all of it, if it was taken
-pub handed_counted : (part : List ℕ) (most : ℕ) (taken : Result (Unit {0}) Error) (n : ℕ) (o : Result ℕ Error) → Counts taken n o → n ≡ length part → n ≤ most
+pub handed_counted : (part : List ℕ) (most : ℕ) (taken : Result (Unit {0}) Error) (n : ℕ) (o : Result ℕ Error) → o ≡ counted_is taken n → n ≡ length part → n ≤ most
     → Handed part 0 most o
-unfolding Handed Counts
+unfolding Handed counted_is
 handed_counted part most (Ok done) n o e h l = subst (Handed part 0 most) (sym e) (h ∙ sym (zero-add (length part)), omega (arith, l))
-handed_counted part most (Err x) n o e h l = handed_none part 0 most o e
+handed_counted part most (Err x) n o e h l = subst (Handed part 0 most) (sym e) tt

@@ -1,6 +1,6 @@
 -- No contract can say which bytes the system writes. What is promised is where in the report each part that is handed over stands, and how
 -- many bytes of the report have been handed over behind it.
-use Rattle.std.specs.Prelude.{ℕ, ◌+◌, ◌≤◌, ◌≡◌, List, ◌++◌, length, take, Result, Ok, Err, IsErr}
+use Rattle.std.specs.Prelude.{ℕ, ◌+◌, ◌≤◌, ◌≡◌, List, ◌++◌, length, take, Result, Ok, Err}
 use Rattle.std.specs.declared.io.Error.{Error}
 use Rattle.answers.specs.Said.{refusal_says}
 use Rattle.answers.specs.declared.Refusal.{Refusal}
@@ -25,10 +25,10 @@ unfoldable pub All : (text : List ℕ) → Result ℕ Error → Type 0
 All text (Ok to) = to ≡ length text
 All text (Err error) = Unit {0}
 
--- of so many bytes all are counted if they were taken, and none if not
-unfoldable pub Counts : {T : Type 0} (taken : Result T Error) (bytes : ℕ) → Result ℕ Error → Type 0
-Counts (Ok done) bytes counted = counted ≡ Ok bytes
-Counts (Err error) bytes counted = IsErr counted
+-- what is counted of so many bytes: all, if they were taken
+unfoldable pub counted_is : {T : Type 0} (taken : Result T Error) (bytes : ℕ) → Result ℕ Error
+counted_is (Ok done) bytes = Ok bytes
+counted_is (Err error) bytes = Err error
 
 -- The report on what a sheet was read to: the words of a good one at the front of a list, or the answer that refuses it.
 unfoldable pub report_from : Result ℕ Refusal → (words : List ℕ) → List ℕ

@@ -12,7 +12,7 @@ ghost use Rattle.report_lines.specs.Lines.{refused_line, set_lines};
 ghost use Rattle.report_parts.specs.Parts.{text_of};
 ghost use Rattle.report.specs.Report.{head_part, minimal_part, blocking_part, report_on, report_of};
 ghost use Rattle.intake.specs.Intake.{WasRead};
-ghost use Rattle.printing.specs.Printing.{Stands, Handed, All, Counts, report_from};
+ghost use Rattle.printing.specs.Printing.{Stands, Handed, All, counted_is, report_from};
 
 use answers::Refusal;
 use fields::Field;
@@ -22,9 +22,9 @@ use std::io;
 use std::io::Write;
 use words::Word;
 
-// What is counted of so many bytes: all if they were taken, and none if not.
+// What is counted of so many bytes: all, if they were taken.
 fn counted(taken: io::Result<()>, bytes: usize) -> io::Result<usize>
-    ensures { Counts taken bytes result }
+    ensures { result ≡ counted_is taken bytes }
 {
     taken?;
     Ok(bytes)
@@ -81,7 +81,7 @@ fn show_sets<W: Write>(
 
 // A list: its line, and the lines of its sets.
 fn show_list<W: Write>(out: &mut W, table: &[u64], at: usize, list: &ListPart) -> io::Result<usize>
-    requires { (Stands (report_on table.now) at (text_of list.now)) × (at ≤ 1500000) }
+    requires { (Stands (report_on table.now) at (text_of list.now)) × (at ≤ 1500000) × (length list.now.sets.now ≤ 1024) }
     ensures { Handed (text_of list.now) at 1119300 result }
 {
     let line = report_lines::listed(list.name, list.reply);

@@ -1,2 +1,3 @@
 pub mod Meaning
 pub mod Exact
+pub mod Checked

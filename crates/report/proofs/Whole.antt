@@ -1,6 +1,6 @@
 -- The report on a sheet is that on the table it was read to, or the line of what its reader says. A report fits one result only.
 use Prim.Native.Nat.{ℕ, ◌≤◌}
-use mathlib.Core.Path.{◌≡◌, refl, ap, sym, subst, ◌∙◌}
+use mathlib.Core.Path.{◌≡◌, ap, sym, subst, ◌∙◌}
 use mathlib.Core.Bool.{false}
 use mathlib.Core.List.{List, [], ◌∷◌}
 use borrow.Author.Tests.{eq-eqb}

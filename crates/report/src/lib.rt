@@ -2,7 +2,7 @@
 // A buffer that is too short must stay as it was, so the report is measured first.
 #![tactic(auto)]
 
-ghost use Rattle.std.specs.Prelude.{◌≡◌, length};
+ghost use Rattle.std.specs.Prelude.{◌≡◌, ◌≤◌, length};
 ghost use Rattle.answers.specs.Said.{wrote_says};
 ghost use Rattle.replies.specs.Shows.{told};
 ghost use Rattle.sheets.specs.Promises.{Put};
@@ -20,6 +20,7 @@ use words::Word;
 pub const ALLOWANCE: u64 = 1000000;
 
 // The minimal quorums, in a list that has room for 1,024.
+// Its twin below asks another question and promises another part; one function with a switch would be no plainer.
 pub fn minimal(table: &[u64], sets: &mut [u64]) -> Reply
     requires { length sets.old ≡ 1024 }
     ensures { Part word.minimal word.q (minimal_part table.now) result sets.new }
@@ -43,6 +44,7 @@ fn fill(
     quorums: &ListPart,
     blocks: &ListPart,
 ) -> Result<u64, Refusal>
+    requires { (length quorums.now.sets.now ≤ 1024) × (length blocks.now.sets.now ≤ 1024) }
     ensures { Put (all_text c v quorums.now blocks.now) out.old out.new (wrote_says result) }
 {
     let lists = report_parts::list_len(quorums) + report_parts::list_len(blocks);

@@ -28,7 +28,7 @@ pub fn following(r: Reply) -> usize
 
 // A list with as many of the sets as follow its line.
 pub fn list(name: Word, letter: Word, reply: Reply, sets: &[u64]) -> ListPart<'_>
-    requires { (following_of reply ≤ length sets.now) × (length sets.now ≤ 1024) }
+    requires { following_of reply ≤ length sets.now }
     ensures { IsListOf name letter reply (take (following_of reply) sets.now) result }
 {
     ListPart {
@@ -86,6 +86,7 @@ fn put_head(out: &mut [u8], c: Reply, v: Reply) -> usize
 
 // How many bytes a list takes: its line, and the lines of its sets.
 pub fn list_len(list: &ListPart) -> usize
+    requires { length list.now.sets.now ≤ 1024 }
     ensures { Counted (text_of list.now) 1119300 result }
 {
     let line = report_lines::listed(list.name, list.reply);

@@ -1,6 +1,4 @@
 // A list as it stands in a report.
-ghost use Rattle.std.specs.Prelude.{◌≤◌, length};
-
 use replies::Reply;
 use words::Word;
 
@@ -11,5 +9,4 @@ pub struct ListPart<'a> {
     pub letter: Word,
     pub reply: Reply,
     pub sets: &'a [u64],
-    ghost few: { length sets.now ≤ 1024 },
 }

@@ -27,6 +27,7 @@ fn all_sheets<W: Write>(out: &mut W, s: &[u8]) -> io::Result<()> {
 // none behind it.
 // `asking::ask_all` reads as much and does something else with it; one function with a closure would be no plainer.
 pub fn run<R: Read, W: Write>(from: &mut R, out: &mut W) -> io::Result<()> {
+    // No heap: room for the first 65,536 bytes, and a count beside it.
     let mut bytes = [0u8; 65536];
     let count = input::read_all(from, &mut bytes)?;
     all_sheets(out, &bytes[..count])

@@ -1,7 +1,5 @@
 -- Each field counts for its text and the byte behind it, which are at most 182.
 use native.Mathlib.Omega.{arith}
-use Prim.Native.Nat.{ℕ}
-use mathlib.Core.Path.{refl}
 use Rattle.words.specs.declared.Word.TheVariants as Wx
 use Rattle.fields.specs.declared.Field.TheVariants as Fx
 use Rattle.fields.proofs.Laws.{length_field, length_rest}

@@ -1,8 +1,7 @@
 -- The byte goes right behind the text.
 use native.Mathlib.Omega.{arith}
-use Prim.Native.Nat.{◌<◌}
 use mathlib.Core.List.{[], ◌∷◌}
-use lib.ListN.{length, length-append}
+use lib.ListN.{length-append}
 use Rattle.decimal.proofs.Place.{within_byte, next_byte}
 use Rattle.fields.specs.Fields.{field_text, ended}
 use Rattle.fields.proofs.put_field.Goals as goal

@@ -1,12 +1,14 @@
--- All is counted of what was taken, and a write that failed ends it.
-use mathlib.Core.Path.{refl}
-use Rattle.printing.specs.Printing.{Counts}
+-- All is counted of what was taken, and a write that failed ends it with its error.
+use Rattle.std.proofs.lemmas.Result.{err_from_is_err_and}
+use Rattle.printing.specs.Printing.{counted_is}
 use Rattle.printing.proofs.counted.Goals as goal
 
 pub returns-in_err-taken : goal.returns-in_err-taken
-unfolding Counts
-returns-in_err-taken c = rw c.in_err-taken.was c.from_residual.ensures.0
+unfolding counted_is
+returns-in_err-taken c =
+    let p = err_from_is_err_and c.from_residual.result c.from_residual.ensures.1 in
+    rw (c.in_err-taken.was, p.1, p.2)
 
 pub returns : goal.returns
-unfolding Counts
-returns c = rw c.in_ok-taken.was refl
+unfolding counted_is
+returns c = rw c.in_ok-taken.was

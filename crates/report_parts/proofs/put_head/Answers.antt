@@ -4,7 +4,7 @@ use Prim.Native.Nat.{ℕ, ◌+◌, ◌-◌, ◌≤◌}
 use mathlib.Core.List.{List}
 use lib.ListN.{length, take, drop, length-append}
 use Rattle.decimal.specs.Bytes.{Written}
-use Rattle.decimal.proofs.Place.{within, room, next}
+use Rattle.decimal.proofs.Place.{room, next}
 use Rattle.replies.specs.declared.Reply.{Reply}
 use Rattle.replies.specs.Shows.{told}
 use Rattle.report_lines.specs.Lines.{nodes_line, verdict_line}
