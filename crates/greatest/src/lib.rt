@@ -33,6 +33,7 @@ fn meets(t: &Table, with: u64, head: usize) -> bool
 }
 
 // The greatest quorum within u with d counted out, where it has all of `must`; otherwise nobody.
+// Plan and nodes counted out go together here and above, but a search has the first and a question the second; a struct of both would be opened at once.
 pub fn greatest_within(plan: &Plan, d: u64, u: u64, due: u64, must: u64) -> u64
     requires { Due plan.now d u due must }
     ensures { result ≡ holding must (of.greatest plan.now d u) }

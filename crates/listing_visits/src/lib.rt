@@ -140,6 +140,7 @@ fn look_blocking(plan: &Plan, a: Visit) -> Step
 }
 
 // A visit of either tree.
+// What is known of a visit (`Stands`) or of a set (`Asked`) speaks of the plan, which is a search's, so it stands in contracts and in no ghost field.
 pub fn look(plan: &Plan, sought: Sought, a: Visit) -> Step
     requires { Stands plan.now sought a }
     ensures { Comes plan.now sought a result }
@@ -181,6 +182,7 @@ fn take_blocking(plan: &Plan, a: Visit, v: u64) -> Visit
 }
 
 // The first visit below a split: node v is left out.
+// `take` below makes the other visit under its own promise; one function for both would be told which by a flag, which is no plainer.
 pub fn leave(plan: &Plan, sought: Sought, a: Visit, v: u64, due: u64) -> Visit
     requires { (Stands plan.now sought a) × (Ready plan.now sought a v due) }
     ensures { Below plan.now sought a v a.c result }

@@ -37,6 +37,7 @@ impl<'a> Model for Plan<'a> {
 }
 
 // Where the quorum set of node v ends: at the record that opens the next node, or with the table.
+// Here and below a node's number has the bound of an index, as where a list is read.
 fn set_end(heads: &Headed, v: u64) -> usize
     requires { v < nodes_of heads.now }
     ensures { (result ≡ set_end heads.now v) × (head_of heads.now v < result) × (result ≤ records heads.now) }

@@ -41,6 +41,7 @@ fn blocked(t: &Table, set: u64, v: u64) -> bool
 }
 
 // Is this set a quorum, with `out` counted out?
+// The questions here share `sound_table` and `?`; each promises its own answer, so one function for several would be no plainer.
 pub fn is_quorum(table: &[u64], out: u64, set: u64) -> Result<bool, Refusal>
     ensures { judged_says result ≡ quorum_reply table.now out set }
 {

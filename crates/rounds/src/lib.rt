@@ -11,6 +11,7 @@ use answers::Greatest;
 use tables::Headed;
 
 // Whether `with` satisfies the quorum set of node v.
+// A node's number has the bound of an index, as where a list is read.
 pub fn satisfied(heads: &Headed, with: u64, v: u64) -> bool
     requires { v < nodes_of heads.now }
     ensures { result ≡ satisfied_is heads.now with v }

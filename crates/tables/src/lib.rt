@@ -11,6 +11,7 @@ ghost use Rattle.tables.specs.Heads.{HeadsTo, Reads};
 use std::marker::Model;
 
 // The control word, threshold + 256 x level.
+// Here and below a record's number has the bound of an index; a type for both would ask for it where it is made, which is no plainer.
 pub fn control(t: &[u64], r: usize) -> u64
     requires { 2 * r + 1 < length t.now }
     ensures { result ≡ control_of t.now r }
