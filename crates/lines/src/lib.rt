@@ -41,8 +41,8 @@ pub fn read_threshold(s: &[u8], level: u64) -> Option<(Option<u64>, usize)>
 }
 
 // The member list at the start of s, which the line's end must follow.
-#[tactic(auto, unfolding(crate::specs::Lines::read_last))]
 // It shares one test with `read_field`, of another byte, and reads something else; one function for both would be no plainer.
+#[tactic(auto, unfolding(crate::specs::Lines::read_last))]
 pub fn read_last(s: &[u8]) -> Option<(u64, usize)>
     ensures { result ≡ read_last s.now }
 {

@@ -17,12 +17,13 @@ pub record IsPlanOf (t : List ℕ) (v : ℕ) (found : Node) : Type 0 where
   pub judged : (i u : ℕ) → has found.like i ≡ true → satisfied t u i ≡ satisfies 3 t u found.head
   pub kept : (i : ℕ) → i < nodes t → has found.touched i ≡ false → Untouched t found.like i
 
--- The plan of the first n nodes, each at its number.
+-- what stands where no node has a plan
 abbrev pub no_node : Node
 no_node = record { head = 0; like = 0; touched = 0 }
 
 abbrev pub node_at : List Node → ℕ → Node
 node_at plan v = get_or plan v no_node
 
+-- The plan of the first n nodes, each at its number.
 abbrev pub PlannedTo : List ℕ → List Node → ℕ → Type 0
 PlannedTo t plan n = (v : ℕ) → v < n → IsPlanOf t v (node_at plan v)
