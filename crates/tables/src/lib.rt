@@ -46,6 +46,7 @@ pub fn members(t: &[u64], r: usize) -> u64
 pub struct Table<'a> {
     words: &'a [u64],
     nodes: u64,
+    all: u64,
 }
 
 impl<'a> Model for Table<'a> {
@@ -53,7 +54,7 @@ impl<'a> Model for Table<'a> {
 
     ghost view = { λ t. t.words.now };
 
-    ghost invariant = { λ t. (check t.words.now ≡ sound) × (t.nodes ≡ nodes_of t.words.now) };
+    ghost invariant = { λ t. (check t.words.now ≡ sound) × (t.nodes ≡ nodes_of t.words.now) × (t.all ≡ everyone (nodes_of t.words.now)) };
 }
 
 impl<'a> Table<'a> {
@@ -61,7 +62,8 @@ impl<'a> Table<'a> {
         requires { (check words.now ≡ sound) × (nodes ≡ nodes_of words.now) }
         ensures { result ≡ words.now }
     {
-        Table { words, nodes }
+        let all = sets::all(nodes);
+        Table { words, nodes, all }
     }
 
     pub fn words(&self) -> &[u64]
@@ -82,11 +84,11 @@ impl<'a> Table<'a> {
         self.nodes
     }
 
-    // All its nodes, as a set.
+    // All its nodes, as a set. It is kept, since each visit that looks outside the chosen nodes asks for it.
     pub fn all(&self) -> u64
         ensures { Reads self.now (result ≡ everyone (nodes_of self.now)) }
     {
-        sets::all(self.nodes)
+        self.all
     }
 
     pub fn level(&self, r: usize) -> u64
@@ -115,7 +117,7 @@ impl<'a> Table<'a> {
 #[derive(Drop)]
 pub struct Headed<'a> {
     table: &'a Table<'a>,
-    at: [usize; 64],
+    at: [u8; 64],
 }
 
 impl<'a> Model for Headed<'a> {
@@ -127,7 +129,7 @@ impl<'a> Model for Headed<'a> {
 }
 
 impl<'a> Headed<'a> {
-    // Finds them: each stands at the node's number.
+    // Finds them: each stands at the node's number. A record's number is a byte, which keeps the list small on the stack.
     pub fn new(table: &'a Table<'a>) -> Headed<'a>
         ensures { result ≡ table.now }
     {
@@ -135,7 +137,7 @@ impl<'a> Headed<'a> {
         let mut v = 0;
         for r in 0..table.records() {
             if table.level(r) == 0 {
-                at[v] = r;
+                at[v] = r as u8;
                 v += 1;
             }
         }
@@ -154,6 +156,6 @@ impl<'a> Headed<'a> {
         ensures { Reads self.now ((result ≡ head_of self.now v) × (result < records_of self.now)) }
     {
         let at = &self.at;
-        at[v as usize]
+        at[v as usize] as usize
     }
 }

@@ -1,13 +1,9 @@
 -- A node's record stands at the node's number, and a sound table has 64 nodes at most.
 use Prim.Native.Nat.{◌<◌}
-use native.Mathlib.Omega.{arith}
 use Rattle.meanings.specs.Table.{nodes}
 use Rattle.tables.proofs.Heads.{head_in}
 use Rattle.tables.proofs.Sound.{node_lt}
 use Rattle.tables.proofs.Headed.head.Goals as goal
-
-pub offset_bounds-at-v : goal.offset_bounds-at-v
-offset_bounds-at-v c = let l = node_lt c.self.inside.table.now c.self.invariant.0 c.args.v (rw c.self.view_is c.requires) in omega (arith, l)
 
 pub bounds-at-v : goal.bounds-at-v
 bounds-at-v c = node_lt c.self.inside.table.now c.self.invariant.0 c.args.v (rw c.self.view_is c.requires)

@@ -22,8 +22,10 @@ bounds-at-v c =
     let few = (sound_table t c.level.ensures.checked).nodes-le in
     omega (arith, met, few, c.loop-r.invariant.0)
 
-pub offset_bounds-at-v : goal.offset_bounds-at-v
-offset_bounds-at-v c = let h = bounds-at-v c in omega arith
+pub overflow_cast-at : goal.overflow_cast-at
+overflow_cast-at c =
+    let few = (sound_table c.args.table.now c.level.ensures.checked).records-le in
+    omega (arith, few, c.loop-r-test.true, c.records-r-end.ensures.reads)
 
 pub overflow_add-v : goal.overflow_add-v
 overflow_add-v c = let h = bounds-at-v c in omega arith
