@@ -115,6 +115,17 @@ module _ (t : List ℕ) (e : check t ≡ sound) where
             sym (judged_walk r l (member_known t e r u l (eqb-false (members t r ∩ u) 0 q))
             ∙ le-leb (lack t u r) (still t u (level t r) (r + 1)) (omega arith))
 
-    -- where something is wanting and no inner sets are to come, it does not
-    pub judged_flat : (r : ℕ) → r < records t → still t u (level t r) (r + 1) ≡ 0 → 0 < lack t u r → holds t u r ≡ false
-    judged_flat r l flat some = judged_walk r l (omega arith) ∙ ap (leb (lack t u r)) flat ∙ lt-leb (lack t u r) 0 some
+    -- Without a member in u the whole threshold is wanting, so that where nothing is, the archive is unknown. Without inner sets to come either, u does not
+    -- satisfy it.
+    pub wanting : (r : ℕ) → 0 < threshold t r → (lack t u r ≡ 0 → members t r ∩ u ≡ 0) → 0 < lack t u r
+    wanting r h f =
+        ⊎_elim (λ (z : lack t u r ≤ 0). let n = ap (size 64) (f (omega arith)) ∙ size-nobody 64 in absurd (omega arith)) (λ p. p) (le-or-lt (lack t u r) 0)
+
+    pub judged_flat : (r : ℕ) → r < records t → still t u (level t r) (r + 1) ≡ 0 → (lack t u r ≡ 0 → members t r ∩ u ≡ 0) → holds t u r ≡ false
+    judged_flat r l flat f =
+        ⊎_elim
+        (λ (z : threshold t r ≤ 0).
+        judged r l
+        ∙ unknown_never t r (((sound_table t e).at r l).zero-unknown (omega arith)) (size 64 (members t r ∩ u) + length (keep (holds t u) (inner_sets t r))))
+        (λ (h : 0 < threshold t r). judged_walk r l h ∙ ap (leb (lack t u r)) flat ∙ lt-leb (lack t u r) 0 (wanting r h f))
+        (le-or-lt (threshold t r) 0)

@@ -1,20 +1,22 @@
 -- When so many entries are enough for a record. A record whose set is known goes by its threshold; for an unknown archive none are enough.
 -- In a sound table the threshold tells the two apart: it is 0 for an unknown archive alone.
-use mathlib.Core.Path.{◌≡◌, sym, ap, ap₂, ◌∙◌}
+use mathlib.Core.Path.{◌≡◌, refl, sym, ap, ap₂, ◌∙◌}
 use mathlib.Core.Bool.{Bool, true, false, not, ◌&&◌}
 use mathlib.Core.List.{List}
 use mathlib.Core.Logic.{⊎_elim}
-use Prim.Native.Nat.{ℕ, ◌<◌, ◌≤◌}
+use Prim.Native.Nat.{ℕ, suc, ◌+◌, ◌<◌, ◌≤◌}
+use native.Mathlib.Numerals.{add-one}
 use native.Mathlib.Omega.{arith}
-use borrow.Author.Tests.{eq-eqb, eqb-true, le-leb, leb-true}
+use borrow.Author.Tests.{eq-eqb, eqb-true, le-leb, leb-true, ltb-false}
 use lib.Bits.{and_zero_l}
 use lib.Dec.{leb, eqb}
 use Rattle.sets.specs.Sets.{◌∩◌}
 use Rattle.sets.proofs.Bools.{and_parts, not-holds, bool_ext}
 use Rattle.sets.proofs.Size.{le-or-lt}
-use Rattle.meanings.specs.Table.{records, members, threshold, unknown, suffice}
-use Rattle.meanings.specs.Faults.{check, sound}
+use Rattle.meanings.specs.Table.{records, members, threshold, level, unknown, suffice}
+use Rattle.meanings.specs.Faults.{check, sound, bad_level}
 use Rattle.tables.proofs.Unknown.{unknown_record, threshold_known}
+use Rattle.tables.proofs.Runs.{from_hit, inner_count}
 use Rattle.tables.proofs.Sound.{sound_table}
 
 module _ (t : List ℕ) (r : ℕ) where
@@ -52,12 +54,28 @@ module _ (t : List ℕ) (e : check t ≡ sound) where
   same_suffice a b l l' q k =
       ap₂ (λ (x : Bool) (y : ℕ). not x && leb y k) (unknown-zero a l ∙ ap (λ (y : ℕ). eqb y 0) q ∙ sym (unknown-zero b l')) q
 
-  -- who names a member is known
+  -- who names a member is known, and so is who has an inner set
   pub member_known : (r u : ℕ) → r < records t → ¬ (members t r ∩ u ≡ 0) → 0 < threshold t r
   member_known r u l h =
       ⊎_elim
       (λ (z : threshold t r ≤ 0).
       let m = (unknown_record t r (((sound_table t e).at r l).zero-unknown (omega arith))).no-members in
       absurd (h (ap (λ (x : ℕ). x ∩ u) m ∙ and_zero_l u)))
+      (λ p. p)
+      (le-or-lt (threshold t r) 0)
+
+  pub deeper_known : (r : ℕ) → r + 1 < records t → level t r < level t (r + 1) → 0 < threshold t r
+  unfolding bad_level
+  deeper_known r l d =
+      ⊎_elim
+      (λ (z : threshold t r ≤ 0).
+      let w = unknown_record t r (((sound_table t e).at r (omega arith)).zero-unknown (omega arith)) in
+      let step = ltb-false (suc (level t r)) (level t (suc r)) ((sound_table t e).at (suc r) (omega arith)).in_step in
+      let same : level t (r + 1) ≡ level t (suc r) = ap (level t) (add-one r) in
+      let next : level t (r + 1) ≡ suc (level t r) = omega arith in
+      let some = from_hit (λ j. true) t (level t r) (r + 1) l d next refl in
+      let all = inner_count t r (λ j l'. ((sound_table t e).at j l').in_step) (omega arith) in
+      let none = w.no_inner in
+      absurd (omega arith))
       (λ p. p)
       (le-or-lt (threshold t r) 0)

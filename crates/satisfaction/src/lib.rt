@@ -103,11 +103,11 @@ impl Wanted {
         ensures { Gets result (λ n3 n2 n1. leb self.outer (bump (leb short n2) n1)) }
     {
         if short == 0 {
-            return self.counted();
+            return self.counted(); // and the next one starts anew
         }
         Wanted {
             inner: short,
-            inmost: 0,
+            inmost: 0, // nothing is wanted below it yet
             ..self
         }
     }

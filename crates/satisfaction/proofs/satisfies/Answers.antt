@@ -1,6 +1,6 @@
 -- Nothing is wanting, and some member is in u or none is; or there is nothing else to count; or the inner sets are walked.
 use native.Mathlib.Omega.{arith}
-use mathlib.Core.Path.{sym, ◌∙◌}
+use mathlib.Core.Path.{◌≡◌, sym, ◌∙◌}
 use Prim.Native.Nat.{◌<◌}
 use Rattle.meanings.specs.Table.{threshold}
 use Rattle.satisfaction.specs.Judged.{lack}
@@ -28,4 +28,4 @@ returns-else-deeper c =
     let u = c.args.u in
     let r = c.args.r in
     let some : 0 < lack t u r = omega (arith, c.lacking-wanted.ensures.reads, c.if-wanted-eq0.false) in
-    c.if-deeper.false ∙ sym (judged_flat t c.lacking-wanted.ensures.checked u r c.requires (c.deeper.ensures u c.if-deeper.false) some)
+    c.if-deeper.false ∙ sym (judged_flat t c.lacking-wanted.ensures.checked u r c.requires (c.deeper.ensures u c.if-deeper.false) (λ (z : lack t u r ≡ 0). absurd (omega arith)))
