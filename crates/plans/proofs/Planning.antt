@@ -1,6 +1,6 @@
 -- A plan of the nodes so far takes in one more. Its record is judged for all that are alike; and a node that is not touched names none
 -- of them in its quorum set, so that it loses nobody named when they are struck.
-use mathlib.Core.Path.{◌≡◌, sym, ap, ◌∙◌, subst}
+use mathlib.Core.Path.{◌≡◌, refl, sym, ap, ◌∙◌, subst}
 use mathlib.Core.Logic.{⊎_elim}
 use mathlib.Core.List.{List}
 use Prim.Native.Nat.{ℕ, ◌+◌, ◌<◌, ◌≤◌}
@@ -70,6 +70,17 @@ is_plan t names v found l e L N T =
       judged = λ i u p. L.alike i p u ∙ ap (satisfies 3 t u) (sym e);
       kept = λ i h q. untouched t names found.like found.touched i (N i h) (T i h q);
     }
+
+-- the plan of a node is that of each node alike
+abbrev pub Shared : List ℕ → Node → Type 0
+Shared t found = (v : ℕ) → In found.like v → IsPlanOf t v found
+
+pub shared : (t : List ℕ) (v : ℕ) (found : Node) → IsPlanOf t v found → Shared t found
+shared t v found I i p = record { inside = I.inside; itself = p; judged = I.judged; kept = I.kept }
+
+-- and where no node has been planned there is none
+pub none_shared : (t : List ℕ) → Shared t no_node
+none_shared t v p = absurd (none_in nobody v refl p)
 
 -- it is written at its number
 pub one_planned : (t : List ℕ) (plan : List Node) (n : ℕ) (found : Node) → n < length plan → PlannedTo t plan n → IsPlanOf t n found

@@ -60,20 +60,6 @@ fn set_of<'a>(heads: &'a Headed, v: u64) -> &'a [u64]
     &heads.table().words()[start..end]
 }
 
-// Node v, and all whose quorum sets are written the same as its own.
-fn alike(heads: &Headed, v: u64) -> u64
-    requires { v < nodes_of heads.now }
-    ensures { LikeNode heads.now v result }
-{
-    let set = set_of(heads, v);
-    let mut like = sets::one(v);
-    for i in 0..heads.table().nodes() {
-        if set_of(heads, i) == set {
-            like |= sets::one(i);
-        }
-    }
-    like
-}
 
 // The nodes that a quorum set names: the members of its records. Judging it looks at no others.
 fn named(set: &[u64]) -> u64
@@ -111,12 +97,32 @@ fn touched(names: &[u64; 64], nodes: u64, like: u64) -> u64
     all
 }
 
+// Node v, and all whose quorum sets are written the same as its own. Those name the same nodes, which most others do not, so that these are
+// told apart without their words.
+fn alike(heads: &Headed, names: &[u64; 64], v: u64) -> u64
+    requires { v < nodes_of heads.now }
+    ensures { LikeNode heads.now v result }
+{
+    let set = set_of(heads, v);
+    let name = names[v as usize];
+    let mut like = sets::one(v);
+    for i in 0..heads.table().nodes() {
+        if names[i as usize] != name {
+            continue;
+        }
+        if set_of(heads, i) == set {
+            like |= sets::one(i);
+        }
+    }
+    like
+}
+
 // What is found for node v.
 fn plan_node(heads: &Headed, names: &[u64; 64], v: u64) -> Node
     requires { (v < nodes_of heads.now) × NamedTo heads.now names.now (nodes_of heads.now) }
     ensures { IsPlanOf heads.now v result }
 {
-    let like = alike(heads, v);
+    let like = alike(heads, names, v);
     Node {
         head: heads.head(v),
         like,
@@ -136,8 +142,13 @@ impl<'a> Plan<'a> {
             touched: 0,
         };
         let mut nodes = [nobody; 64];
+        let mut node = nobody;
         for v in 0..table.nodes() {
-            nodes[v as usize] = plan_node(&heads, &names, v);
+            // Nodes alike have one plan, and often stand side by side.
+            if !sets::contains(node.like, v) {
+                node = plan_node(&heads, &names, v);
+            }
+            nodes[v as usize] = node;
         }
         Plan { table, nodes }
     }

@@ -3,12 +3,18 @@ use mathlib.Core.Path.{sym, ap, ◌∙◌}
 use Rattle.std.specs.Cmp.Lexicographic.{same_text}
 use native.Mathlib.Omega.{arith}
 use Rattle.meanings.specs.Table.{nodes as nodes_of}
-use Rattle.tables.proofs.Sound.{sound_table}
+use Rattle.tables.proofs.Sound.{sound_table, node_lt}
 use Rattle.plans.proofs.Written.{bounds}
 use Rattle.plans.proofs.SameSets.{same_sets}
 use Rattle.plans.proofs.Planning.{itself_alone, one_alike}
 use Rattle.plans.proofs.alike.Goals.{then-eq, else-eq}
 use Rattle.plans.proofs.alike.Goals as goal
+
+pub bounds-names-v : goal.bounds-names-v
+bounds-names-v c = node_lt c.args.heads.now c.set_of-set.ensures.checked c.args.v c.requires
+
+pub offset_bounds-names-v : goal.offset_bounds-names-v
+offset_bounds-names-v c = let l = node_lt c.args.heads.now c.set_of-set.ensures.checked c.args.v c.requires in omega (arith, l)
 
 pub one-like-requires : goal.one-like-requires
 one-like-requires c = let m = (sound_table c.args.heads.now c.set_of-set.ensures.checked).nodes-le in omega arith
