@@ -3,7 +3,7 @@
 use mathlib.Core.Path.{◌≡◌, refl, sym, ap, ◌∙◌, subst}
 use mathlib.Core.Bool.{Bool, true, false, not}
 use mathlib.Core.List.{List}
-use mathlib.Core.Logic.{⊎_elim}
+use mathlib.Core.Logic.{◌⊎◌, inl, inr, ⊎_elim}
 use Prim.Native.Nat.{ℕ, ◌^◌, ◌<◌}
 use borrow.Author.Tests.{eqb-true, eqb-false, ne_eqb}
 use lib.Pow.{pow_pos, pow-lt}
@@ -24,6 +24,13 @@ held must g x e z = go (within must g) refl e
     go : (b : Bool) → within must g ≡ b → x ≡ where_true b g → (within must g ≡ true) × (x ≡ g)
     go true p q = (p, q)
     go false p q = absurd (z q)
+
+pub not_held : (must g x : ℕ) → x ≡ holding must g → x ≡ nobody → (g ≡ nobody) ⊎ (within must g ≡ false)
+not_held must g x e z = go (within must g) refl e
+  where
+    go : (b : Bool) → within must g ≡ b → x ≡ where_true b g → (g ≡ nobody) ⊎ (within must g ≡ false)
+    go true p q = inl (sym q ∙ z)
+    go false p q = inr p
 
 pub held_is : (must g x : ℕ) → x ≡ holding must g → within must g ≡ true → x ≡ g
 held_is must g x e p = e ∙ ap (λ (b : Bool). where_true b g) p

@@ -98,8 +98,11 @@ module _ (n : ℕ) (s : ℕ → ℕ → Bool) (k : Sought) (c : ℕ) where
       pub next_in : In left v
       next_in = subst (In left) (sym e) (lowest_in 64 left left_lt z)
 
-      pub next_lt : v < 64
-      next_lt = has_below 64 left v left_lt next_in
+      pub next_lt : v < n
+      next_lt = has_below n left v w.below next_in
+
+      pub next_bit : v < 64
+      next_bit = has_below 64 left v left_lt next_in
 
       pub next_chosen : In c v
       next_chosen = within-sub left c w.inside v next_in

@@ -1,7 +1,7 @@
 -- The nodes of c are taken out one after another, the lowest first; those that are out cannot be spared.
 use mathlib.Core.Path.{sym, ◌∙◌}
 use Rattle.meanings.specs.Table.{nodes, satisfied}
-use Rattle.listing_visits.proofs.Laws.{left-all, left-none, next_in, next_lt, next_spared, next_fewer, left_next}
+use Rattle.listing_visits.proofs.Laws.{left-all, left-none, next_in, next_bit, next_spared, next_fewer, left_next}
 use Rattle.listing_visits.proofs.minimal.Goals as goal
 
 pub loop-left-init : goal.loop-left-init
@@ -23,7 +23,7 @@ returns-then-can_spare c =
 
 pub one-requires : goal.one-requires
 one-requires c =
-    next_lt (nodes c.args.plan.now) (satisfied c.args.plan.now) c.args.sought c.args.c c.loop-left.left c.loop-left.invariant
+    next_bit (nodes c.args.plan.now) (satisfied c.args.plan.now) c.args.sought c.args.c c.loop-left.left c.loop-left.invariant
     c.first-v.result c.ranges.c.fits c.loop-left-test.true c.first-v.ensures.0
 
 pub loop-left-smaller : goal.loop-left-smaller
