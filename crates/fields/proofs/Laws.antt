@@ -61,6 +61,7 @@ word_most Wx.Minimal = omega arith
 word_most Wx.Q = omega arith
 word_most Wx.Blocking = omega arith
 word_most Wx.B = omega arith
+word_most Wx.Blank = omega arith
 
 -- a number that a field holds has 64 bits
 abbrev pub in_word : Field → Type 0

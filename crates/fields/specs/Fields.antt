@@ -1,8 +1,8 @@
 -- A line of fields: a fixed word, a number or a set of nodes each, with tabs between them and ended by LF.
-use Rattle.std.specs.Prelude.{ℕ, ◌+◌, ◌≤◌, ◌≡◌, length, cond, List, [], ◌∷◌, ◌++◌, ltb}
+use Rattle.std.specs.Prelude.{ℕ, ◌+◌, ◌≤◌, ◌≡◌, length, cond, List, [], ◌∷◌, ◌++◌, eqb, ltb}
 use Rattle.decimal.specs.Decimal.{numeral}
 use Rattle.members.specs.Members.{member_text}
-use Rattle.words.specs.Words.{word_text}
+use Rattle.words.specs.Words.{word_text, numbered_text}
 use Rattle.fields.specs.declared.Field.{Field}
 use Rattle.fields.specs.declared.Field.TheVariants as Fx
 
@@ -17,6 +17,10 @@ abbrev pub field_text : Field → List ℕ
 field_text (Fx.Fixed w) = word_text w
 field_text (Fx.Number n) = numeral n
 field_text (Fx.Set s) = member_text s
+
+-- the text of a field by its numbers: kind 0 is a word, 1 a number, 2 a set; any other kind has no text
+unfoldable pub kind_text : ℕ → ℕ → List ℕ
+kind_text kind x = cond (eqb kind 0) (numbered_text x) (cond (eqb kind 1) (numeral x) (cond (eqb kind 2) (member_text x) []))
 
 unfoldable pub texts : List Field → List (List ℕ)
 texts [] = []

@@ -3,7 +3,7 @@
 
 ghost use Rattle.std.specs.Prelude.{◌≡◌, ◌<◌, ◌≤◌, length};
 ghost use Rattle.decimal.specs.Bytes.{Written};
-ghost use Rattle.fields.specs.Fields.{field_text, line_of, end_at, ended, Counted};
+ghost use Rattle.fields.specs.Fields.{field_text, kind_text, line_of, end_at, ended, Counted};
 
 use words::Word;
 
@@ -13,6 +13,21 @@ pub enum Field {
     Fixed(Word),
     Number(u64),
     Set(u64),
+}
+
+impl Field {
+    // A field by its numbers: of kind 0 it is the word of x, of 1 the number x and of 2 the set x; of any other kind it is blank.
+    #[tactic(auto, unfolding(crate::specs::Fields::kind_text))]
+    pub fn numbered(kind: u64, x: u64) -> Field
+        ensures { field_text result ≡ kind_text kind x }
+    {
+        match kind {
+            0 => Field::Fixed(Word::from(x)),
+            1 => Field::Number(x),
+            2 => Field::Set(x),
+            _ => Field::Fixed(Word::Blank),
+        }
+    }
 }
 
 // The text of one field, at the front of out.

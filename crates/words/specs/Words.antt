@@ -1,5 +1,5 @@
 -- The report's fixed words, byte by byte.
-use Rattle.std.specs.Prelude.{ℕ, List, [], ◌∷◌}
+use Rattle.std.specs.Prelude.{ℕ, cond, List, [], ◌∷◌, eqb}
 use Rattle.words.specs.declared.Word.{Word}
 use Rattle.words.specs.declared.Word.TheVariants as Wx
 
@@ -52,3 +52,19 @@ word_text Wx.Minimal = minimal
 word_text Wx.Q = q
 word_text Wx.Blocking = blocking
 word_text Wx.B = b
+word_text Wx.Blank = []
+
+-- the text of a fixed word by its number; any other number has none
+unfoldable pub numbered_text : ℕ → List ℕ
+numbered_text x =
+    cond (eqb x 0) refused
+    (cond (eqb x 1) nodes
+    (cond (eqb x 2) sets
+    (cond (eqb x 3) verdict
+    (cond (eqb x 4) yes
+    (cond (eqb x 5) no
+    (cond (eqb x 6) none
+    (cond (eqb x 7) minimal
+    (cond (eqb x 8) q
+    (cond (eqb x 9) blocking
+    (cond (eqb x 10) b []))))))))))

@@ -1,9 +1,9 @@
 // The fixed words of the report.
 #![tactic(auto)]
 
-ghost use Rattle.std.specs.Prelude.{◌≤◌, length};
+ghost use Rattle.std.specs.Prelude.{◌≡◌, ◌≤◌, length};
 ghost use Rattle.decimal.specs.Bytes.{Written};
-ghost use Rattle.words.specs.Words.{word_text};
+ghost use Rattle.words.specs.Words.{word_text, numbered_text};
 
 // The fixed words.
 #[derive(Clone, Copy)]
@@ -19,6 +19,31 @@ pub enum Word {
     Q,
     Blocking,
     B,
+    // no fixed word: nothing is written
+    Blank,
+}
+
+// The fixed words by their numbers, in the order above from 0; any other number is blank.
+impl From<u64> for Word {
+    ghost from_gives = { λ number word. word_text word ≡ numbered_text number };
+
+    #[tactic(auto, unfolding(crate::specs::Words::numbered_text))]
+    fn from(number: u64) -> Word {
+        match number {
+            0 => Word::Refused,
+            1 => Word::Nodes,
+            2 => Word::Sets,
+            3 => Word::Verdict,
+            4 => Word::Yes,
+            5 => Word::No,
+            6 => Word::Hyphen,
+            7 => Word::Minimal,
+            8 => Word::Q,
+            9 => Word::Blocking,
+            10 => Word::B,
+            _ => Word::Blank,
+        }
+    }
 }
 
 // The bytes of a word, at the front of out.
@@ -47,5 +72,6 @@ pub fn put_word(out: &mut [u8], w: Word) -> usize
         Word::Q => copy(b"q", out),
         Word::Blocking => copy(b"blocking", out),
         Word::B => copy(b"b", out),
+        Word::Blank => 0,
     }
 }
