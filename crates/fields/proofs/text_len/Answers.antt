@@ -12,4 +12,5 @@ returns-in-Number c =
 
 pub returns-in-Set : goal.returns-in-Set
 returns-in-Set c =
-    rw c.in-Set.is (record { long = c.members_len.ensures; within = omega (arith, c.members_len.ensures, length-members c.in-Set.set) })
+    let most = length-members c.in-Set.set in
+    rw c.in-Set.is (record { long = omega (arith, c.members_len.ensures, most); within = omega (arith, c.members_len.ensures, most) })
