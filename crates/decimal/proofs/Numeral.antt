@@ -52,6 +52,9 @@ length_digit n h = rw (numeral_digit n h)
 pub length_tens : (n : ℕ) → 10 ≤ n → length (numeral n) ≡ length (numeral (n / 10)) + 1
 length_tens n h = rw (numeral_tens n h) (length-append (numeral (n / 10)) ((48 + n % 10) ∷ []))
 
+pub length_2 : (n : ℕ) → 10 ≤ n → n < 100 → length (numeral n) ≡ 2
+length_2 n g h = rw (numeral_2 n g h)
+
 -- a number below 10^(k + 1) has at most k + 1 digits
 pub length_below : (k n : ℕ) → n < 10 ^ suc k → length (numeral n) ≤ suc k
 length_below zero n h = omega (arith, length_digit n h)

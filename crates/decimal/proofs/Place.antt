@@ -1,5 +1,5 @@
 -- Writing w at a place keeps what stands before and after it, so writing u and then v right behind it is writing u ++ v.
-use Prim.Native.Nat.{ℕ, ◌+◌, ◌-◌, ◌≤◌, ◌<◌}
+use Prim.Native.Nat.{ℕ, suc, ◌+◌, ◌-◌, ◌≤◌, ◌<◌}
 use native.Mathlib.Omega.{arith}
 use native.Mathlib.Numerals.{add-one}
 use native.Mathlib.Nat.{add_assoc, zero-add}
@@ -45,6 +45,13 @@ module _ (at : ℕ) (w d : List ℕ) (fits : at + length w ≤ length d) where
 -- one byte
 pub set_place : (at x : ℕ) (d : List ℕ) → at < length d → set d at x ≡ at_place at (x ∷ []) d
 set_place at x d h = rw (set_split d at x h, drop-drop, add-one)
+
+-- writing w before a byte that is set already is writing w and the byte
+pub front_set : (w : List ℕ) (x : ℕ) (d : List ℕ) → length w < length d → at_front w (set d (length w) x) ≡ at_front (w ++ x ∷ []) d
+front_set w x d h =
+    let a : length (take (length w) d) ≡ length w = length-take-le (length w) d (omega arith) in
+    rw (set_split d (length w) x h, drop_at (take (length w) d) (x ∷ drop (suc (length w)) d) (length w) a, length-append, add-one)
+    (simp append_assoc)
 
 -- what is written behind a front makes a longer front
 pub front_place : (u v d : List ℕ) → length u + length v ≤ length d → at_place (length u) v (at_front u d) ≡ at_front (u ++ v) d

@@ -49,15 +49,23 @@ pub fn read_number(s: &[u8]) -> Option<(u64, usize)>
     Some((v, 3))
 }
 
-// How many digits n has: one, and one more for each power of ten up to it.
-#[tactic(auto, using(crate::proofs::Numeral::length_digit, crate::proofs::Numeral::length_power))]
+// How many digits n has: one, and one more for each power of ten up to it. Most numbers are a node or a threshold of one or two digits, which
+// need no logarithm.
+#[tactic(auto, using(crate::proofs::Numeral::length_digit, crate::proofs::Numeral::length_2, crate::proofs::Numeral::length_power))]
 pub fn number_len(n: u64) -> usize
     ensures { result ≡ length (numeral n) }
 {
+    if n < 10 {
+        return 1;
+    }
+    if n < 100 {
+        return 2;
+    }
     n.checked_ilog10().unwrap_or(0) as usize + 1
 }
 
-// Writes n at the front of out, its last digit behind the others, and answers how many bytes that took.
+// Writes n at the front of out, its last digit behind the others, and answers how many bytes that took. Two digits are written without a call
+// of itself, since most numbers have no more.
 #[tactic(auto, using(crate::proofs::Numeral::length_digit, crate::proofs::Numeral::length_tens))]
 pub fn put_number(out: &mut [u8], n: u64) -> usize
     requires { length (numeral n) ≤ length out.old }
@@ -66,6 +74,11 @@ pub fn put_number(out: &mut [u8], n: u64) -> usize
     if n < 10 {
         out[0] = b'0' + n as u8;
         return 1;
+    }
+    if n < 100 {
+        out[0] = b'0' + (n / 10) as u8;
+        out[1] = b'0' + (n % 10) as u8;
+        return 2;
     }
     let at = put_number(out, n / 10);
     out[at] = b'0' + (n % 10) as u8;
