@@ -7,8 +7,9 @@ use mathlib.Core.Bool.{Bool, true, false, cond}
 use mathlib.Core.Logic.{⊎_elim}
 use mathlib.Core.List.{List, [], ◌∷◌, ◌++◌, append_assoc, append-nil}
 use borrow.Author.Tests.{le-ltb}
-use lib.ListN.{length, take, drop, length-append, length-take, length-drop, take-append-drop}
-use lib.Seq.{paste, take-paste, length-take-le, take-add, take-append_seam, drop-append_seam, drop-append-le, drop-append-add}
+use lib.ListN.{length, take, drop, get_or, length-append, length-take, length-drop, take-append-drop}
+use lib.Seq.{get_or-drop, paste, drop-paste, take-paste, length-take-le, take-add, take-append_seam, drop-append_seam, drop-append-le, drop-append-add}
+use borrow.Rule.Slice.PartMut.{put_mid}
 use Rattle.sets.proofs.Bools.{either}
 use Rattle.std.proofs.lemmas.List.{drop-take}
 use Rattle.std.specs.List.{copy_within}
@@ -30,6 +31,32 @@ use Rattle.sheets.proofs.Taking.{TakenUpTo, all_taken, surplus, malformed, one_m
 use Rattle.sheets.proofs.Bounds.{used_most, line_longer, line_cut}
 use Rattle.intake.specs.declared.Window.{Window}
 use Rattle.intake.specs.Intake.{Widens, UpTo, Took, Reaches, Judges, WasRead, TakesIn}
+
+-- what is put back in the place of the end of a list is as long as that
+pub part_length : (a : ℕ) (xs ys : List ℕ) → a ≤ length xs → length (put_mid a (length xs - a) xs ys) ≡ length xs → length ys ≡ length xs - a
+part_length a xs ys h e =
+    let k = length xs - a in
+    let z = drop k (drop a xs) in
+    let l1 = length-append (take a xs) (ys ++ z) in
+    let l2 = length-append ys z in
+    let l3 = length-take a xs in
+    let l4 = length-drop k (drop a xs) in
+    let l5 = length-drop a xs in
+    omega arith
+
+-- a byte further on is still the one that was there
+pub later : (b : List ℕ) (used i : ℕ) → used + i < length b → get_or (paste b 0 (drop used b) i) (used + i) 0 ≡ get_or (drop used b) i 0
+later b used i h =
+    let F = drop used b in
+    let n : i ≤ length F = omega (arith, length-drop used b) in
+    let e : used + i ≡ i + used = omega arith in
+    let z : 0 + i ≡ i = zero-add i in
+    ap (λ (k : ℕ). get_or (paste b 0 F i) k 0) e
+    ∙ sym (get_or-drop i (paste b 0 F i) used 0)
+    ∙ ap (λ (l : List ℕ). get_or l used 0) (ap (λ (k : ℕ). drop k (paste b 0 F i)) (sym z) ∙ drop-paste b 0 F i (omega arith) n ∙ ap (λ (k : ℕ). drop k b) z)
+    ∙ get_or-drop i b used 0
+    ∙ ap (λ (k : ℕ). get_or b k 0) (sym e)
+    ∙ sym (get_or-drop used b i 0)
 
 -- ---- the lines of what comes in
 
@@ -138,18 +165,20 @@ read_on o b a len r x w u (longer, fits, whole, same, enough) =
 pub line_in : (n : ℕ) (a : List ℕ) (l : Line) (k : ℕ) → n ≤ length a → Some (l, k) ≡ read_line (take n a) → (0 < k) × (k ≤ n)
 line_in n a l k h e = let f = line-some (take n a) l k (sym e) in (f.0, omega (arith, f.1, length-take-le n a h))
 
--- the bytes behind a line that was taken, moved to the front
-pub moved : (a b : List ℕ) (used n : ℕ) → used ≤ n → n ≤ length a → b ≡ copy_within a used n 0 → drop used (take n a) ≡ take (n - used) b
+-- the bytes from a place on, moved to the front
+pub moved : (a b : List ℕ) (used n : ℕ) → used ≤ n → n ≤ length a → b ≡ copy_within a used n 0 → take (n - used) b ≡ take (n - used) (drop used a)
 moved a b used n h f e =
     let k = n - used in
     let d = length-drop used a in
-    let s : used + k ≡ n = omega arith in
-    let z = zero-add k in
-    ap (λ (i : ℕ). drop used (take i a)) (sym s)
-    ∙ drop-take used k a
-    ∙ sym (take-paste a 0 (drop used a) k (omega arith) (omega arith))
-    ∙ ap (λ (i : ℕ). take i (paste a 0 (drop used a) k)) z
-    ∙ ap (take k) (sym e)
+    ap (take k) e
+    ∙ ap (λ (i : ℕ). take i (paste a 0 (drop used a) k)) (sym (zero-add k))
+    ∙ take-paste a 0 (drop used a) k (omega arith) (omega arith)
+
+-- what is left of a window behind the line that was taken
+pub left_over : (a : List ℕ) (used n : ℕ) → used ≤ n → drop used (take n a) ≡ take (n - used) (drop used a)
+left_over a used n h =
+    let s : used + (n - used) ≡ n = omega arith in
+    ap (λ (i : ℕ). drop used (take i a)) (sym s) ∙ drop-take used (n - used) a
 
 -- ---- what the lines came to, judged, is the answer
 

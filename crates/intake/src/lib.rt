@@ -2,7 +2,7 @@
 // and its record is two words.
 #![tactic(auto)]
 
-ghost use Rattle.std.specs.Prelude.{◌≡◌, ◌≤◌, length};
+ghost use Rattle.std.specs.Prelude.{◌≡◌, ◌-◌, ◌≤◌, length, take, drop};
 ghost use Rattle.intake.specs.Intake.{FitsIn, filled_is, Widens, Hears, Reaches, Judges, TakesIn};
 
 use answers::{Fault, Refusal};
@@ -48,6 +48,14 @@ fn widen<R: io::Read>(from: &mut R, buf: &mut [u8], window: Window) -> io::Resul
     filled(window.count, got)
 }
 
+// Drops the first bytes of the window: the others move to the front, and none of them is lost.
+fn shift(buf: &mut [u8], used: usize, len: usize)
+    requires { (used ≤ len) × (len ≤ length buf.old) }
+    ensures { (take (len - used) buf.new ≡ take (len - used) (drop used buf.old)) × (length buf.new ≡ length buf.old) }
+{
+    buf.copy_within(used..len, 0);
+}
+
 // The lines in turn, each judged when it is there as a whole.
 fn hear<R: io::Read>(from: &mut R, words: &mut [u64]) -> io::Result<Heard>
     requires { length words.old ≡ 512 }
@@ -81,7 +89,7 @@ fn hear<R: io::Read>(from: &mut R, words: &mut [u64]) -> io::Result<Heard>
         };
         sheets::put_record(words, r, line);
         nought = sheets::first_nought(nought, line.threshold, r + 1);
-        buf.copy_within(used..window.count, 0);
+        shift(&mut buf, used, window.count);
         window.count -= used;
         r += 1;
     };

@@ -3,7 +3,7 @@ use native.Mathlib.Omega.{arith}
 use Prim.Native.Nat.{◌≤◌}
 use mathlib.Core.Path.{refl, sym, ◌∙◌}
 use lib.ListN.{length}
-use Rattle.intake.proofs.Laws.{at_first, read_on, line_in, moved, told-all, told-surplus, told_malformed, one_line}
+use Rattle.intake.proofs.Laws.{at_first, read_on, line_in, left_over, told-all, told-surplus, told_malformed, one_line}
 use Rattle.lines.proofs.Round.{written_read}
 use Rattle.intake.proofs.hear.Goals as goal
 
@@ -13,8 +13,9 @@ loop-window-init g c = record { whole = refl; held = omega arith; few = omega ar
 pub put_record-requires : goal.put_record-requires
 put_record-requires g c = let f = written_read _ _ _ (sym c.in-Some.ensures) in (omega arith, f.level, f.threshold)
 
-pub copy_within-requires-clause-start_le_end : goal.copy_within-requires-clause-start_le_end
-copy_within-requires-clause-start_le_end g c = (line_in c.in_ok-window.window.count c.widen.new.buf _ _ (omega (arith, c.in_ok-window.ensures)) c.in-Some.ensures).1
+pub shift-requires : goal.shift-requires
+shift-requires g c =
+    ((line_in c.in_ok-window.window.count c.widen.new.buf _ _ (omega (arith, c.in_ok-window.ensures)) c.in-Some.ensures).1, omega (arith, c.in_ok-window.ensures))
 
 pub overflow_sub-window : goal.overflow_sub-window
 overflow_sub-window g c = (line_in c.in_ok-window.window.count c.widen.new.buf _ _ (omega (arith, c.in_ok-window.ensures)) c.in-Some.ensures).1
@@ -30,11 +31,11 @@ loop-window-preserved g c =
     let f = line_in w.count a x.line x.used fits x.ensures in
     let next = one_line _ _ _ _ u.0 x.line x.used (omega arith) (omega arith) (sym x.ensures) in
     record {
-      whole = omega (arith, c.copy_within.ensures.len);
+      whole = omega (arith, c.shift.ensures.1);
       held = omega arith;
       few = omega arith;
       read = omega arith;
-      taken = rw (c.first_nought-nought.ensures, c.put_record.ensures, ← moved a c.copy_within.new.self x.used w.count f.1 fits c.copy_within.ensures.after) next;
+      taken = rw (c.first_nought-nought.ensures, c.put_record.ensures, c.shift.ensures.0, ← left_over a x.used w.count f.1) next;
     }
 
 pub returns-then-window-eq0 : goal.returns-then-window-eq0
