@@ -1,7 +1,7 @@
 // A plan for the searches, found once for a question: for each node what is judged for it, who is alike, and who can lose something when it is struck.
 #![tactic(auto)]
 
-ghost use Rattle.std.specs.Prelude.{◌≡◌, List, ℕ, ◌<◌, ◌≤◌};
+ghost use Rattle.std.specs.Prelude.{◌≡◌, true, List, ℕ, ◌<◌, ◌≤◌};
 ghost use Rattle.meanings.specs.Table.{records, nodes as nodes_of, head_of};
 ghost use Rattle.meanings.specs.Faults.{check, sound};
 ghost use Rattle.tables.specs.Heads.{Reads};
@@ -97,6 +97,13 @@ fn touched(names: &[u64; 64], nodes: u64, like: u64) -> u64
     all
 }
 
+// Whether two quorum sets are written the same, word by word.
+fn same_set(a: &[u64], b: &[u64]) -> bool
+    ensures { result ≡ true → a.now ≡ b.now }
+{
+    a == b
+}
+
 // Node v, and all whose quorum sets are written the same as its own. Those name the same nodes, which most others do not, so that these are
 // told apart without their words.
 fn alike(heads: &Headed, names: &[u64; 64], v: u64) -> u64
@@ -110,7 +117,7 @@ fn alike(heads: &Headed, names: &[u64; 64], v: u64) -> u64
         if names[i as usize] != name {
             continue;
         }
-        if set_of(heads, i) == set {
+        if same_set(set_of(heads, i), set) {
             like |= sets::one(i);
         }
     }

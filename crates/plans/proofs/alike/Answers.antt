@@ -1,13 +1,12 @@
 -- The loop keeps the node itself and those passed whose quorum sets are written the same, which makes them alike.
 use mathlib.Core.Path.{sym, ap, ◌∙◌}
-use Rattle.std.specs.Cmp.Lexicographic.{same_text}
 use native.Mathlib.Omega.{arith}
 use Rattle.meanings.specs.Table.{nodes as nodes_of}
 use Rattle.tables.proofs.Sound.{sound_table, node_lt}
 use Rattle.plans.proofs.Written.{bounds}
 use Rattle.plans.proofs.SameSets.{same_sets}
 use Rattle.plans.proofs.Planning.{itself_alone, one_alike}
-use Rattle.plans.proofs.alike.Goals.{then-eq, else-eq}
+use Rattle.plans.proofs.alike.Goals.{then-same_set, else-same_set}
 use Rattle.plans.proofs.alike.Goals as goal
 
 pub bounds-names-v : goal.bounds-names-v
@@ -27,11 +26,11 @@ loop-i-preserved c =
     let t = c.args.heads.now in
     let v = c.args.v in
     let i = c.loop-i.i in
-    elim c.if-eq.branch [
-      | then-eq w ↦
+    elim c.if-same_set.branch [
+      | then-same_set w ↦
           let n = ap nodes_of c.table.ensures.reads in
-          let same = sym c.set_of.ensures.reads ∙ same_text c.set_of.result.now c.set_of-set.result.now (sym w.if-eq.true ∙ c.eq.ensures) ∙ c.set_of-set.ensures.reads in
-          rw (w.like-is, w.one-like-then-eq.ensures)
+          let same = sym c.set_of.ensures.reads ∙ c.same_set.ensures w.if-same_set.true ∙ c.set_of-set.ensures.reads in
+          rw (w.like-is, w.one-like-then-same_set.ensures)
           (one_alike t v c.loop-i.like i c.loop-i.invariant (same_sets t i v (bounds t i (omega (arith, c.nodes-i-end.ensures.reads.0))) (bounds t v c.requires) same c.set_of.ensures.checked))
-      | else-eq w ↦ rw w.like-is c.loop-i.invariant
+      | else-same_set w ↦ rw w.like-is c.loop-i.invariant
     ]
