@@ -8,7 +8,7 @@ ghost use Rattle.std.specs.Prelude.{◌≡◌, ◌≤◌, length};
 ghost use Rattle.replies.specs.Shows.{told};
 ghost use Rattle.words.specs.Words.{word_text};
 ghost use Rattle.fields.specs.Fields.{line_of};
-ghost use Rattle.report_lines.specs.Lines.{refused_line, set_lines};
+ghost use Rattle.report_lines.specs.Lines.{refused_line, list_line, set_lines};
 ghost use Rattle.report_parts.specs.Parts.{text_of};
 ghost use Rattle.report.specs.Report.{head_part, minimal_part, blocking_part, report_on, report_of};
 ghost use Rattle.intake.specs.Intake.{WasRead};
@@ -38,23 +38,22 @@ fn hand<W: Write>(out: &mut W, fields: &[Field], bytes: &[u8]) -> io::Result<usi
     counted(out.write_all(bytes), bytes.len())
 }
 
-// A line of up to six fields, which has at most 1,092 bytes, behind the bytes that are handed over before it. A report has some two million
+// A line of at most 1,092 bytes, as each line of the report is, behind the bytes that are handed over before it. A report has some two million
 // bytes at the most; the bounds on how many are handed over already are there so that the counts can be added.
 fn print<W: Write>(out: &mut W, at: usize, fields: &[Field]) -> io::Result<usize>
-    requires { (at ≤ 4000000) × (length fields.now ≤ 6) }
+    requires { (at ≤ 4000000) × (length (line_of fields.now) ≤ 1092) }
     ensures { Handed (line_of fields.now) at 1092 result }
 {
     // No heap: room for the longest line, and a count beside it.
     let mut line = [0u8; 1092];
-    let len = fields::line_len(fields);
-    fields::put_line(&mut line, fields);
+    let len = fields::put_line(&mut line, fields);
     let to = hand(out, fields, &line[..len])?;
     Ok(at + to)
 }
 
 // A line of the report on a table, which stands there. The table is lent for what is asked alone, so that nothing else can be printed.
 fn show<W: Write>(out: &mut W, table: &[u64], at: usize, fields: &[Field]) -> io::Result<usize>
-    requires { (Stands (report_on table.now) at (line_of fields.now)) × (at ≤ 4000000) × (length fields.now ≤ 6) }
+    requires { (Stands (report_on table.now) at (line_of fields.now)) × (at ≤ 4000000) × (length (line_of fields.now) ≤ 1092) }
     ensures { Handed (line_of fields.now) at 1092 result }
 {
     print(out, at, fields)
@@ -79,13 +78,27 @@ fn show_sets<W: Write>(
     Ok(place)
 }
 
+// The line of a list, before its sets. The reply is passed by value, since its numbers are then known to have 64 bits.
+fn show_listed<W: Write>(
+    out: &mut W,
+    table: &[u64],
+    at: usize,
+    name: Word,
+    reply: Reply,
+) -> io::Result<usize>
+    requires { (Stands (report_on table.now) at (list_line (word_text name) (told reply))) × (at ≤ 4000000) }
+    ensures { Handed (list_line (word_text name) (told reply)) at 1092 result }
+{
+    let line = report_lines::listed(name, reply);
+    show(out, table, at, &line)
+}
+
 // A list: its line, and the lines of its sets.
 fn show_list<W: Write>(out: &mut W, table: &[u64], at: usize, list: &ListPart) -> io::Result<usize>
     requires { (Stands (report_on table.now) at (text_of list.now)) × (at ≤ 1500000) × (length list.now.sets.now ≤ 1024) }
     ensures { Handed (text_of list.now) at 1119300 result }
 {
-    let line = report_lines::listed(list.name, list.reply);
-    let to = show(out, table, at, &line)?;
+    let to = show_listed(out, table, at, list.name, list.reply)?;
     show_sets(out, table, to, list.letter, list.sets)
 }
 

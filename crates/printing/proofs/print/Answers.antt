@@ -1,4 +1,4 @@
--- Six fields take at most 1,092 bytes, so the line fits; what is handed over is the line.
+-- The line fits, as is asked; what is handed over is the line.
 use native.Mathlib.Omega.{arith}
 use Rattle.fields.specs.Fields.{line_of}
 use Rattle.printing.specs.Printing.{Handed}

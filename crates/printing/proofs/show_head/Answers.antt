@@ -1,7 +1,7 @@
 -- The verdict's line stands right behind that of the nodes.
 use native.Mathlib.Omega.{arith}
-use Prim.Native.Nat.{ℕ, ◌+◌, ◌≤◌}
-use mathlib.Core.Path.{◌≡◌, sym, ◌∙◌, subst}
+use Prim.Native.Nat.{ℕ, ◌+◌, ◌^◌, ◌≤◌, ◌<◌}
+use mathlib.Core.Path.{◌≡◌, sym, ap, ◌∙◌, subst}
 use mathlib.Core.List.{List, ◌++◌}
 use lib.ListN.{length}
 use Rattle.sets.specs.Sets.{nobody}
@@ -13,6 +13,7 @@ use Rattle.report_lines.proofs.Told.{nodes-told, verdict-told}
 use Rattle.report.specs.Report.{head_part, minimal_part, blocking_part, report_on, allowance}
 use Rattle.printing.specs.Printing.{Stands}
 use Rattle.printing.proofs.Laws.{stands_as, stands_first, stands_second, stands_start, handed_none, handed_up, handed_more, handed_as}
+use Rattle.printing.proofs.Most.{nodes_most, verdict_most}
 use Rattle.printing.proofs.show_head.Goals as goal
 
 -- the two lines
@@ -31,7 +32,11 @@ show-requires g c =
     let t = c.args.table.now in
     let line : line_of c.nodes-nodes.result ≡ first t =
     c.nodes-nodes.ensures.comes ∙ nodes-told c.reply.result _ (subst (Shows c.reply.result) c.check_table.ensures c.reply.ensures) in
-    (stands_as (report_on t) 0 _ _ (sym line) (stands_first (report_on t) 0 (first t) (second t) (stands_head t)), omega arith, omega (arith, c.nodes-nodes.ensures.long))
+    let r = c.reply.result in
+    let nodes : r.nodes < 2 ^ 64 = omega arith in
+    let records : r.records < 2 ^ 64 = omega arith in
+    let fits : length (line_of c.nodes-nodes.result) ≤ 1092 = omega (arith, ap length c.nodes-nodes.ensures.comes, nodes_most r nodes records) in
+    (stands_as (report_on t) 0 _ _ (sym line) (stands_first (report_on t) 0 (first t) (second t) (stands_head t)), omega arith, fits)
 
 pub returns-in_err-to : goal.returns-in_err-to
 returns-in_err-to g c = handed_none _ _ _ _ c.from_residual.ensures.0
@@ -45,7 +50,11 @@ show-requires-2 g c =
     handed_up (first t) 0 1092 c.show.result c.in_ok-to.to c.in_ok-to.was (handed_as _ _ _ _ _ line c.show.ensures) in
     let next : line_of c.verdict-line.result ≡ second t =
     c.verdict-line.ensures.comes ∙ verdict-told c.reply-2.result _ (subst (Shows c.reply-2.result) c.intersect-verdict.ensures.told c.reply-2.ensures) in
-    (stands_as (report_on t) _ _ _ (sym next) (stands_second (report_on t) 0 (first t) (second t) _ shown.0 (stands_head t)), omega (arith, shown.1), omega (arith, c.verdict-line.ensures.long))
+    let r = c.reply-2.result in
+    let number : r.number < 2 ^ 64 = omega arith in
+    let visits : r.visits < 2 ^ 64 = omega arith in
+    let fits : length (line_of c.verdict-line.result) ≤ 1092 = omega (arith, ap length c.verdict-line.ensures.comes, verdict_most r number visits) in
+    (stands_as (report_on t) _ _ _ (sym next) (stands_second (report_on t) 0 (first t) (second t) _ shown.0 (stands_head t)), omega (arith, shown.1), fits)
 
 pub returns : goal.returns
 unfolding head_part

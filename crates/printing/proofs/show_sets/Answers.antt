@@ -5,11 +5,13 @@ use mathlib.Core.Path.{◌≡◌, sym, ap}
 use mathlib.Core.List.{List, ◌++◌}
 use lib.ListN.{length, drop, get_or}
 use Rattle.words.specs.Words.{word_text}
+use Rattle.fields.specs.Fields.{line_of}
 use Rattle.report_lines.specs.Lines.{set_line, set_lines}
 use Rattle.report.specs.Report.{report_on}
 use Rattle.report_parts.proofs.Sets.{next_set, length_next, no_set}
 use Rattle.printing.specs.Printing.{Stands, Handed}
 use Rattle.printing.proofs.Laws.{stands_as, stands_first, stands_second, handed_none, handed_up, handed_as}
+use Rattle.printing.proofs.Most.{set_most}
 use Rattle.printing.proofs.show_sets.Goals as goal
 
 pub show-requires : goal.show-requires
@@ -21,7 +23,8 @@ show-requires g c =
     let rest : List ℕ = set_lines (word_text a.letter) (drop (l.set-index + 1) a.sets.now) in
     let stands_next : Stands (report_on a.table.now) l.place (its_line ++ rest) =
     stands_as _ _ _ _ (next_set (word_text a.letter) a.sets.now l.set-index c.loop-set-test.true) v.stands in
-    (stands_as _ _ _ _ (sym c.one-line.ensures.comes) (stands_first _ _ its_line rest stands_next), omega (arith, v.within, v.low, v.few, c.loop-set-test.true), omega (arith, c.one-line.ensures.long))
+    let fits : length (line_of c.one-line.result) ≤ 1092 = omega (arith, ap length c.one-line.ensures.comes, set_most a.letter (get_or a.sets.now l.set-index 0)) in
+    (stands_as _ _ _ _ (sym c.one-line.ensures.comes) (stands_first _ _ its_line rest stands_next), omega (arith, v.within, v.low, v.few, c.loop-set-test.true), fits)
 
 pub returns-in_err-place : goal.returns-in_err-place
 returns-in_err-place g c = handed_none _ _ _ _ c.from_residual.ensures.0
