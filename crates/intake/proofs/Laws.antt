@@ -166,8 +166,8 @@ pub line_in : (n : ℕ) (a : List ℕ) (l : Line) (k : ℕ) → n ≤ length a �
 line_in n a l k h e = let f = line-some (take n a) l k (sym e) in (f.0, omega (arith, f.1, length-take-le n a h))
 
 -- the bytes from a place on, moved to the front
-pub moved : (a b : List ℕ) (used n : ℕ) → used ≤ n → n ≤ length a → b ≡ copy_within a used n 0 → take (n - used) b ≡ take (n - used) (drop used a)
-moved a b used n h f e =
+pub to_front : (a b : List ℕ) (used n : ℕ) → used ≤ n → n ≤ length a → b ≡ copy_within a used n 0 → take (n - used) b ≡ take (n - used) (drop used a)
+to_front a b used n h f e =
     let k = n - used in
     let d = length-drop used a in
     ap (take k) e
@@ -179,6 +179,10 @@ pub left_over : (a : List ℕ) (used n : ℕ) → used ≤ n → drop used (take
 left_over a used n h =
     let s : used + (n - used) ≡ n = omega arith in
     ap (λ (i : ℕ). drop used (take i a)) (sym s) ∙ drop-take used (n - used) a
+
+-- the two together: the bytes behind a line that was taken, moved to the front
+pub moved : (a b : List ℕ) (used n : ℕ) → used ≤ n → n ≤ length a → b ≡ copy_within a used n 0 → drop used (take n a) ≡ take (n - used) b
+moved a b used n h f e = left_over a used n h ∙ sym (to_front a b used n h f e)
 
 -- ---- what the lines came to, judged, is the answer
 

@@ -60,7 +60,6 @@ fn set_of<'a>(heads: &'a Headed, v: u64) -> &'a [u64]
     &heads.table().words()[start..end]
 }
 
-
 // The nodes that a quorum set names: the members of its records. Judging it looks at no others.
 fn named(set: &[u64]) -> u64
     ensures { Gathered set.now result }
