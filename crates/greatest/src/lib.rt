@@ -24,8 +24,8 @@ fn next(due: u64, must: u64) -> u64
     sets::first(due)
 }
 
-// Whether `with` satisfies a record; where a glance at its members tells, nothing is judged. It is made part of the loops that ask, so that
-// there the glance calls no function.
+// Whether `with` satisfies a record; where a glance at its members tells, nothing is judged. It is made part of the loops that ask, which most
+// often are told at a glance.
 #[inline(always)]
 fn meets(t: &Table, with: u64, head: usize) -> bool
     requires { head < records t.now }

@@ -103,8 +103,8 @@ fn same_set(a: &[u64], b: &[u64]) -> bool
     a == b
 }
 
-// Node v, and all whose quorum sets are written the same as its own. Those name the same nodes, which most others do not, so that these are
-// told apart without their words.
+// Node v, and all whose quorum sets are written the same as its own. Those name the same nodes, so that a node whose set names others is told
+// apart without its words.
 fn alike(heads: &Headed, names: &[u64; 64], v: u64) -> u64
     requires { v < nodes_of heads.now }
     ensures { LikeNode heads.now v result }

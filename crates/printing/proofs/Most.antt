@@ -1,4 +1,4 @@
--- No line of the report has more than 1,092 bytes: it has six fields at the most, whose numbers have 64 bits, and each field takes 182 with
+-- No line of the report has more than 1,092 bytes: it has six fields at the most, whose numbers have 64 bits, and each field takes up to 182 with
 -- the byte behind it.
 use Prim.Native.Nat.{ℕ, zero, suc, ◌^◌, ◌≤◌, ◌<◌}
 use native.Mathlib.Omega.{arith}
