@@ -4,7 +4,9 @@ use Prim.Native.Nat.{ℕ, suc, ◌+◌, ◌-◌, ◌/◌, ◌^◌, ◌≤◌, �
 use native.Mathlib.Omega.{arith}
 use mathlib.Core.Path.{◌≡◌, ap, sym, ◌∙◌}
 use mathlib.Core.List.{List, [], ◌++◌}
+use mathlib.Core.Logic.{⊎_elim}
 use lib.ListN.{length, length-append}
+use Rattle.decimal.proofs.Order.{lt-or-le}
 use Rattle.members.specs.Members.{nodes_from, with_commas, member_text}
 use Rattle.members.specs.Steps.{id_text}
 use Rattle.members.proofs.Nodes.{half, nodes-none}
@@ -35,6 +37,10 @@ left_nothing i q e = rw (e, nodes-none (64 - i) i)
 -- after 64 bits nothing is left
 pub left_end : (i q : ℕ) → 64 ≤ i → q < 2 ^ (64 - i) → q ≡ 0
 left_end i q h w = let e : 64 - i ≡ 0 = omega arith in let g : q < 2 ^ 0 = rw e at w in omega arith
+
+-- so while some node is left, i is one of the 64
+pub below_64 : (i q : ℕ) → q < 2 ^ (64 - i) → 0 < q → i < 64
+below_64 i q w h = ⊎_elim (λ p. p) (λ p. let e = left_end i q p w in absurd (omega arith)) (lt-or-le i 64)
 
 -- at the start all of the set is left
 pub left-all : (m : ℕ) → (m ≡ 0 → ⊥) → ids_left 0 m ≡ member_text m

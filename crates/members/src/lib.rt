@@ -73,21 +73,21 @@ fn id_len(i: u64, q: u64) -> usize
     k + 1
 }
 
-// How many bytes the list of m takes, up to its highest node.
+// How many bytes the list of m takes, up to its highest node. What is left of the set is halved each turn, so the loop ends. It tests nothing else:
+// a `for` over the 64 nodes, left where no node is left, has one more test a turn, and writing a sheet took half as long again.
 pub fn members_len(m: u64) -> usize
     ensures { result ≡ length (member_text m) }
 {
     if m == 0 {
         return 1;
     }
+    let mut i: u64 = 0;
     let mut q = m;
     let mut n: usize = 0;
-    for i in 0..64 {
-        if q == 0 {
-            break;
-        }
+    while 0 < q {
         n = n + id_len(i, q);
         q = q / 2;
+        i = i + 1;
     }
     n
 }
@@ -117,14 +117,13 @@ pub fn put_members(out: &mut [u8], m: u64) -> usize
         out[0] = b'-';
         return 1;
     }
+    let mut i: u64 = 0;
     let mut q = m;
     let mut at: usize = 0;
-    for i in 0..64 {
-        if q == 0 {
-            break;
-        }
+    while 0 < q {
         at = at + put_id(&mut out[at..], i, q);
         q = q / 2;
+        i = i + 1;
     }
     at
 }

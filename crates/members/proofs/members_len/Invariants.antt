@@ -7,5 +7,8 @@ use Rattle.members.specs.Members.{member_text}
 use Rattle.members.proofs.Walk.{ids_left}
 use Rattle.members.proofs.members_len.Given as goal
 
-abbrev pub invariant-loop-i : goal.invariant-loop-i
-invariant-loop-i l = (l.q < 2 ^ (64 - l.i)) × (l.n + length (ids_left l.i l.q) ≡ length (member_text l.m))
+abbrev pub decreases-loop-q : goal.decreases-loop-q
+decreases-loop-q l = l.q
+
+abbrev pub invariant-loop-q : goal.invariant-loop-q
+invariant-loop-q l = (l.q < 2 ^ (64 - l.i)) × (l.n + length (ids_left l.i l.q) ≡ length (member_text l.m))

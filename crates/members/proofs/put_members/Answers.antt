@@ -12,7 +12,7 @@ use Rattle.decimal.proofs.Place.{at_place, length_place, lent, place_place, set_
 use Rattle.members.specs.Members.{member_text}
 use Rattle.members.specs.Steps.{id_text}
 use Rattle.members.proofs.Written.{text_none}
-use Rattle.members.proofs.Walk.{ids_left, left_fits, left_split, left_step, left_nothing, left_end, left-all}
+use Rattle.members.proofs.Walk.{ids_left, left_fits, left_split, left_step, left_nothing, below_64, left-all}
 use Rattle.members.proofs.put_members.Invariants.{Left}
 use Rattle.members.proofs.put_members.Goals as goal
 
@@ -69,33 +69,31 @@ returns-then-m-eq0 c =
     let h : 0 < length a.out.now = omega (arith, ap length e) in
     rw e (record { count = refl; bytes = set_place 0 45 a.out.now h })
 
-pub loop-i-init : goal.loop-i-init
-loop-i-init c =
+pub loop-q-init : goal.loop-q-init
+loop-q-init c =
     let a = c.args in
     begin a.out.now a.m (omega arith) c.if-m-eq0.false c.requires
 
 pub slice_bounds-put_id-count : goal.slice_bounds-put_id-count
-slice_bounds-put_id-count c = omega (arith, fits _ _ _ _ _ _ c.loop-i.invariant c.loop-i-test.true)
+slice_bounds-put_id-count c = let l = c.loop-q in omega (arith, fits _ _ _ _ _ _ l.invariant (below_64 l.i l.q l.invariant.fits c.loop-q-test.true))
 
 pub put_id-at-requires : goal.put_id-at-requires
-put_id-at-requires c = lent_room _ _ _ _ _ _ c.loop-i.invariant c.loop-i-test.true
+put_id-at-requires c = let l = c.loop-q in lent_room _ _ _ _ _ _ l.invariant (below_64 l.i l.q l.invariant.fits c.loop-q-test.true)
 
 pub overflow_add-at : goal.overflow_add-at
 overflow_add-at c =
-    let l = c.loop-i in
-    omega (arith, fits _ _ _ _ _ _ l.invariant c.loop-i-test.true, c.put_id-at.ensures.count, l.invariant.same)
+    let l = c.loop-q in
+    omega (arith, fits _ _ _ _ _ _ l.invariant (below_64 l.i l.q l.invariant.fits c.loop-q-test.true), c.put_id-at.ensures.count, l.invariant.same)
 
-pub loop-i-preserved : goal.loop-i-preserved
-loop-i-preserved c =
+pub overflow_add-i : goal.overflow_add-i
+overflow_add-i c = let l = c.loop-q in omega (arith, below_64 l.i l.q l.invariant.fits c.loop-q-test.true)
+
+pub loop-q-preserved : goal.loop-q-preserved
+loop-q-preserved c =
     let p = c.put_id-at in
-    let l = c.loop-i in
-    rw (p.ensures.count, p.ensures.bytes, lent l.at (id_text l.i l.q) l.out (fits _ _ _ _ _ _ l.invariant c.loop-i-test.true))
-    (turn _ _ _ _ _ _ l.invariant c.loop-i-test.true)
+    let l = c.loop-q in
+    let h = below_64 l.i l.q l.invariant.fits c.loop-q-test.true in
+    rw (p.ensures.count, p.ensures.bytes, lent l.at (id_text l.i l.q) l.out (fits _ _ _ _ _ _ l.invariant h)) (turn _ _ _ _ _ _ l.invariant h)
 
-pub returns-after-loop-i : goal.returns-after-loop-i
-returns-after-loop-i c =
-    let l = c.loop-i in
-    done _ _ _ _ _ _ l.invariant (left_end l.i l.q c.loop-i-test.false l.invariant.fits)
-
-pub returns-then-q-eq0 : goal.returns-then-q-eq0
-returns-then-q-eq0 c = done _ _ _ _ _ _ c.loop-i.invariant c.if-q-eq0.true
+pub returns : goal.returns
+returns c = let z : c.loop-q.q ≡ 0 = omega arith in done _ _ _ _ _ _ c.loop-q.invariant z

@@ -17,5 +17,8 @@ pub record Left (out₀ : List ℕ) (m : ℕ) (out : List ℕ) (i q at : ℕ) : 
   pub room : length (member_text m) ≤ length out₀
   pub promised : at_place at (ids_left i q) out ≡ at_front (member_text m) out₀
 
-abbrev pub invariant-loop-i : goal.invariant-loop-i
-invariant-loop-i l = Left l.initial.out l.m l.out l.i l.q l.at
+abbrev pub decreases-loop-q : goal.decreases-loop-q
+decreases-loop-q l = l.q
+
+abbrev pub invariant-loop-q : goal.invariant-loop-q
+invariant-loop-q l = Left l.initial.out l.m l.out l.i l.q l.at
