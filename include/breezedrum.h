@@ -18,8 +18,8 @@
  * Threads: nothing is kept between calls and there are no globals, so several threads may call at once. Two calls may read one input; a
  * lent buffer belongs to one call until it returns.
  *
- * Stack (bench/stack): at most 58,728 bytes were measured for a report, 34,760 for a list, 25,528 for a verdict or the intact nodes, 4,512
- * for reading a sheet, 1,392 for anything else, on tables of 64 nodes and 256 records whose searches go as deep as they can: the depth is
+ * Stack (bench/stack): at most 58,968 bytes were measured for a report, 34,664 for a list, 25,544 for a verdict or the intact nodes, 4,512
+ * for reading a sheet, 480 for anything else, on tables of 64 nodes and 256 records whose searches go as deep as they can: the depth is
  * bounded by the nodes, whatever the allowance. A thread with 96 KiB of stack is enough for a report, one with 64 KiB for all the others.
  *
  *   number  when                                                   also given
